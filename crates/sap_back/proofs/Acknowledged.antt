@@ -22,10 +22,10 @@ use Rattle.sap_restrict.specs.ReservedFacts.{init_fact}
 use Rattle.sap_rule.specs.RuleSteps.{RuleState}
 use Rattle.sap_runs.specs.declared.process_step.PStep.{PStep}
 use Rattle.sap_steps.specs.Marks.{marks}
-use Rattle.sap_translate.specs.ChannelFacts.{ack_fact}
-use Rattle.sap_translate.specs.Places.{ScopedPlace}
-use Rattle.sap_translate.specs.Templates as rules
-use Rattle.sap_translate.specs.Templates.{first_of}
+use Rattle.sap_templates.specs.ChannelFacts.{ack_fact}
+use Rattle.sap_templates.specs.Places.{ScopedPlace}
+use Rattle.sap_templates.specs.Templates as rules
+use Rattle.sap_templates.specs.Templates.{first_of}
 use Rattle.sap_translate.specs.relation.Agents.{Agent, unborn, running, copying, awaiting, received, is_unborn}
 use Rattle.sap_translate.specs.relation.Answers.{goes_on}
 use Rattle.sap_translate.specs.relation.Counts.{has_init}
@@ -33,17 +33,18 @@ use Rattle.sap_translate.specs.relation.Envs.{names, no_env, values}
 use Rattle.sap_translate.specs.relation.Followed.{IsUsed}
 use Rattle.sap_translate.specs.relation.Totals.{total}
 use Rattle.sap_back.specs.Along.{IsAlong}
-use Rattle.sap_back.specs.Followed.{IsWritten}
-use Rattle.sap_back.specs.Tables.{Tables, AreTables, come}
+use Rattle.sap_back.specs.Followed.{IsWrittenAsProcess}
+use Rattle.sap_process_lines.specs.Tables.{ProcessTables, come}
+use Rattle.sap_back.specs.Tables.{AreProcessTables}
 use Rattle.sap_back.proofs.Added.{one_state}
 use Rattle.sap_back.proofs.Cases.{law, Goes, Case, on_set, none_written}
 use Rattle.sap_back.proofs.Effects.{kept, traded}
 use Rattle.sap_back.proofs.Premises.{Laws}
 use Rattle.sap_back.proofs.Seats.{numbered, own, Fired, head_of, none_left, equal_none, was_there, same_place, equal_linear}
 use Rattle.sap_back.proofs.Terms.{no_acts, normal_same, SameOn, variables_same}
-use Rattle.sap_back.proofs.owners.Facts.{made}
-use Rattle.sap_back.proofs.owners.Owner.{ack_owner, sent_owner, handshake}
-use Rattle.sap_back.proofs.owners.Totals.{total-append, total_found, Found}
+use Rattle.sap_translate.proofs.Shared.Facts.{made}
+use Rattle.sap_translate.proofs.Shared.Owners.{ack_owner, sent_owner, handshake}
+use Rattle.sap_translate.proofs.Shared.Totals.{total-append, total_found, Found}
 
 -- the last of the arguments
 record Last (g : Sig) (σ : Choice) (v : List Var) (ts : List Tree) : Type 0 where
@@ -88,7 +89,7 @@ unborn_of agents f = by f.item refl
     by (Some (awaiting path env m n x y body k)) e = absurd (no (Some (awaiting path env m n x y body k)) e refl)
     by (Some (received path env m n body k)) e = absurd (no (Some (received path env m n body k)) e refl)
 
-module _ (laws : Laws) (g : Sig) (W : Tree → Type 0) (p q : Proc) (hold : HoldsBuiltins g) (ready : IsReady g p) (small : node_count p < 2 ^ 64) (annotated : IsAnnotation p q) (agents : List (Option Agent)) (pending : Option Tree) (lines : List PStep) (c : Config) (es : List Tree) (tr : Trace) (s : RuleState) (full : Trace) (w : IsAlong g W q agents pending lines c es tr s full) (tables : Tables) (table : AreTables agents pending c es s tables) where
+module _ (laws : Laws) (g : Sig) (W : Tree → Type 0) (p q : Proc) (hold : HoldsBuiltins g) (ready : IsReady g p) (small : node_count p < 2 ^ 64) (annotated : IsAnnotation p q) (agents : List (Option Agent)) (pending : Option Tree) (lines : List PStep) (c : Config) (es : List Tree) (tr : Trace) (s : RuleState) (full : Trace) (w : IsAlong g W q agents pending lines c es tr s full) (tables : ProcessTables) (table : AreProcessTables agents pending c es s tables) where
   number_of : (k : ℕ) (f : Fact) (e : slice_get s.facts k ≡ Some (Some f)) {t : ℕ} → t ≡ (numbered laws g W q agents pending c tr s full w.together.related es tables table k f e).0 → slice_get tables.facts k ≡ Some t
   number_of k f e from = (numbered laws g W q agents pending c tr s full w.together.related es tables table k f e).1 ∙ ap (λ i. Some i) (sym from)
 
@@ -134,7 +135,7 @@ module _ (laws : Laws) (g : Sig) (W : Tree → Type 0) (p q : Proc) (hold : Hold
           let same : SameOn (names hs.env) σ hs.env.choice = variables_same laws.decide e (names hs.env) σ hs.env.choice (λ x. (fired.used.fits.messages x).normal) (λ x m. (here.1.messages x m).normal)
           (subst (λ ts. AllZip (IsTheoryEqual e) (map (instance σ) (map variable (names hs.env))) ts) hs.bound (subst (λ z. AllZip (IsTheoryEqual e) (map (instance σ) (map variable z)) l.front) (sym scope) l.fronts)) in
           let f = law laws g W p q hold ready small annotated agents pending lines c es tr s full w tables table _ laws.follows_out_ack hs.thread first.number second.number hs.tag path hs.env hs.m hs.n hs.body σ left acts right rest hs.is stands used_there in
-          none_written laws g W p q hold ready small annotated agents pending lines c es tr s full w tables table (rules.out_ack_rule path v).name ks (first.number ∷ second.number ∷ []) b numbers (goes_on agents hs.thread path hs.env hs.body) (come tables (hs.thread ∷ [])) rest acts right (IsWritten.goes_on hs.thread first.number second.number hs.tag path hs.env b hs.m hs.n hs.body hs.is stands (number_of first.number (waits_fact path (l.front ++ ack.name ∷ [])) there hs.from), λ gs i. (traded used_there.takes lefts (one_state laws g σ fired.used.fits.messages (first_of path) hs.env right same used_there.fits.adds), number_of second.number (ack_fact ack.name) at_second hs.also, kept refl refl i)) f
+          none_written laws g W p q hold ready small annotated agents pending lines c es tr s full w tables table (rules.out_ack_rule path v).name ks (first.number ∷ second.number ∷ []) b numbers (goes_on agents hs.thread path hs.env hs.body) (come tables (hs.thread ∷ [])) rest acts right (IsWrittenAsProcess.goes_on hs.thread first.number second.number hs.tag path hs.env b hs.m hs.n hs.body hs.is stands (number_of first.number (waits_fact path (l.front ++ ack.name ∷ [])) there hs.from), λ gs i. (traded used_there.takes lefts (one_state laws g σ fired.used.fits.messages (first_of path) hs.env right same used_there.fits.adds), number_of second.number (ack_fact ack.name) at_second hs.also, kept refl refl i)) f
           (ap (λ a. marks (a ∷ [])) (no_acts (equations g) acts fired.used.fits.shows)) (on_set laws g W p q hold ready small annotated agents pending lines c es tr s full w tables table hs.thread (first_of path) hs.env hs.body)
 
   -- the rules start
@@ -149,7 +150,7 @@ module _ (laws : Laws) (g : Sig) (W : Tree → Type 0) (p q : Proc) (hold : Hold
       let left_none = equal_none g left fired.used.fits.takes in
       let numbers : ks ≡ [] = none_left (subst (λ fs. Takes s.facts ks fs rest) left_none fired.used.takes) in
       let f = law laws g W p q hold ready small annotated agents pending lines c es tr s full w tables table _ laws.follows_init there.0 there.1 σ left acts right rest there.2 (subst (λ js. IsUsed g s full rules.init_rule js σ left acts right rest) numbers fired.used) in
-      none_written laws g W p q hold ready small annotated agents pending lines c es tr s full w tables table rules.init_rule.name ks [] b numbers (slice_set agents there.0 (Some (running [] no_env there.1))) (come tables (there.0 ∷ [])) rest acts right (IsWritten.starts there.0 there.1 b there.2 (table.unborn there.0 there.1 there.2), λ fs i. (traded (subst (λ js. Takes s.facts js left rest) numbers fired.used.takes) left_none (one_state laws g σ fired.used.fits.messages [] no_env right (λ x m. elim m [ ]) fired.used.fits.adds), kept refl refl i)) f
+      none_written laws g W p q hold ready small annotated agents pending lines c es tr s full w tables table rules.init_rule.name ks [] b numbers (slice_set agents there.0 (Some (running [] no_env there.1))) (come tables (there.0 ∷ [])) rest acts right (IsWrittenAsProcess.starts there.0 there.1 b there.2 (table.unborn there.0 there.1 there.2), λ fs i. (traded (subst (λ js. Takes s.facts js left rest) numbers fired.used.takes) left_none (one_state laws g σ fired.used.fits.messages [] no_env right (λ x m. elim m [ ]) fired.used.fits.adds), kept refl refl i)) f
       (ap (λ a. marks (a ∷ [])) shows) (on_set laws g W p q hold ready small annotated agents pending lines c es tr s full w tables table there.0 [] no_env there.1)
     where
       init_acts : (fs : List Fact) → Rattle.sap_terms.specs.Modulo.AreFormsOfFacts (equations g) (init_fact ∷ []) fs → fs ≡ init_fact ∷ []

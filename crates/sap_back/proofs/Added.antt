@@ -16,16 +16,16 @@ use Rattle.sap_terms.specs.declared.fact.Fact.{Fact}
 use Rattle.sap_terms.specs.declared.var.Var.{Var}
 use Rattle.sap_process.specs.Sites.{var_names}
 use Rattle.sap_place.specs.StateFacts.{state_fact, copies_fact, waits_fact, tag}
-use Rattle.sap_translate.specs.ChannelFacts.{ack_fact, msg_fact}
+use Rattle.sap_templates.specs.ChannelFacts.{ack_fact, msg_fact}
 use Rattle.sap_translate.specs.Members.{Member}
 use Rattle.sap_translate.specs.Scoped.{IsFree}
-use Rattle.sap_translate.specs.Templates.{state}
+use Rattle.sap_templates.specs.Templates.{state}
 use Rattle.sap_translate.specs.relation.Answers.{widened}
 use Rattle.sap_translate.specs.relation.Envs.{Env, bind, join, just, names, values}
 use Rattle.sap_back.proofs.Premises.{Laws}
 use Rattle.sap_back.proofs.Terms.{contains, no_acts, one_form_of, SameOn}
-use Rattle.sap_back.proofs.owners.Facts.{made}
-use Rattle.sap_back.proofs.owners.Lookups.{member_cases, in_left, in_right, only_member}
+use Rattle.sap_translate.proofs.Shared.Facts.{made}
+use Rattle.sap_translate.proofs.Shared.Lookups.{member_cases, in_left, in_right, only_member}
 
 -- a list of forms has a first for the first
 pub record FirstForm (g : Sig) (a : Fact) (rest hs : List Fact) : Type 0 where

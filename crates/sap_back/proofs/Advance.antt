@@ -27,8 +27,9 @@ use Rattle.sap_translate.specs.relation.Follows.{Together, Follows, Waits, writt
 use Rattle.sap_translate.specs.relation.ProcessMoves as move
 use Rattle.sap_translate.specs.relation.ProcessMoves.{ProcessMove, ProcessMoves, IsProcessMove, process_move}
 use Rattle.sap_translate.specs.relation.Related.{pending_place}
-use Rattle.sap_back.specs.Followed.{IsWritten, pending_lines}
-use Rattle.sap_back.specs.Tables.{Tables, IsPending}
+use Rattle.sap_back.specs.Followed.{IsWrittenAsProcess, pending_lines}
+use Rattle.sap_process_lines.specs.Tables.{ProcessTables}
+use Rattle.sap_back.specs.Tables.{IsPending}
 use Rattle.sap_terms.specs.declared.binding.Binding.{Binding}
 use Rattle.sap_runs.specs.declared.rule_step.RStep.{RStep}
 use Rattle.sap_back.specs.Along.{IsAlong, SentWithin, count_pending}
@@ -97,9 +98,9 @@ pub record GoesOn (g : Sig) (W : Tree → Type 0) (start : Proc) (next : List (O
   pub is : IsAlong g W start next later (lines ++ more) d entries trace z full
 
 -- these lines are written for the line of rules, and have the effect that goes with it
-abbrev pub Carries : (g : Sig) (agents : List (Option Agent)) (pending : Option Tree) (c : Config) (es : List Tree) (s : RuleState) (tables : Tables) (step : RStep) (acts : List Fact) (more : List PStep) (next : List (Option Agent)) (later : Option Tree) (behind : Tables) (d : Config) (z : RuleState) → Type 0
+abbrev pub Carries : (g : Sig) (agents : List (Option Agent)) (pending : Option Tree) (c : Config) (es : List Tree) (s : RuleState) (tables : ProcessTables) (step : RStep) (acts : List Fact) (more : List PStep) (next : List (Option Agent)) (later : Option Tree) (behind : ProcessTables) (d : Config) (z : RuleState) → Type 0
 Carries g agents pending c es s tables step acts more next later behind d z =
-    (is : IsWritten g agents pending s tables step acts more next later behind) × ((fs : List Tree) → Grows c es d fs → Effect is z c es d fs)
+    (is : IsWrittenAsProcess g agents pending s tables step acts more next later behind) × ((fs : List Tree) → Grows c es d fs → Effect is z c es d fs)
 
 -- nothing is sent
 nothing_sent : {c : Config} {es : List Tree} → Grows c es c es
@@ -241,7 +242,7 @@ module _ (g : Sig) (W : Tree → Type 0) (start : Proc) where
         }
 
     -- what follows, where these are the lines that are written, and this is what they do
-    pub followed : (tables behind : Tables) (later : Option Tree) (step : RStep) (more : List PStep) (d : Config) → GoesOn g W start next later lines more c es d z (full ++ acts ∷ []) → Carries g agents pending c es s tables step acts more next later behind d z
+    pub followed : (tables behind : ProcessTables) (later : Option Tree) (step : RStep) (more : List PStep) (d : Config) → GoesOn g W start next later lines more c es d z (full ++ acts ∷ []) → Carries g agents pending c es s tables step acts more next later behind d z
         → IsContinued g W start agents pending lines c es s full tables step z acts
     followed tables behind later step more d h written = record {
       more = more;

@@ -23,8 +23,9 @@ use Rattle.sap_translate.specs.relation.Agents.{Agent}
 use Rattle.sap_translate.specs.relation.ProcessMoves as move
 use Rattle.sap_translate.specs.relation.ProcessMoves.{process_move}
 use Rattle.sap_back.specs.Along.{IsAlong, count_pending}
-use Rattle.sap_back.specs.Followed.{IsWritten, pending_lines}
-use Rattle.sap_back.specs.Tables.{Tables, AreTables, come, enters, waiting, with_known}
+use Rattle.sap_back.specs.Followed.{IsWrittenAsProcess, pending_lines}
+use Rattle.sap_process_lines.specs.Tables.{ProcessTables, come, enters, waiting, with_known}
+use Rattle.sap_back.specs.Tables.{AreProcessTables}
 use Rattle.sap_runs.specs.declared.rule_step.RStep.TheVariants as rline
 use Rattle.sap_back.proofs.Advance.{by_none, by_know, writes, unwritten, one_move, followed}
 use Rattle.sap_back.proofs.Cases.{law}
@@ -35,13 +36,13 @@ use Rattle.sap_back.proofs.Seats.{head_of, numbered, there_too}
 use Rattle.sap_back.proofs.Terms.{contains}
 
 -- each of these terms has a number in the table
-record Numbers (tables : Tables) (es : List Tree) (ks : List ℕ) (ts : List Tree) : Type 0 where
+record Numbers (tables : ProcessTables) (es : List Tree) (ks : List ℕ) (ts : List Tree) : Type 0 where
   js : List ℕ
   are : map (slice_get tables.entries) ks ≡ map (λ j. Some j) js
   entries : map (slice_get es) js ≡ map (λ x. Some x) ts
   many : length js ≡ length ts
 
-numbers_of : (tables : Tables) (es known : List Tree) → ((k e : ℕ) → slice_get tables.entries k ≡ Some e → slice_get es e ≡ slice_get known k) → length tables.entries ≡ length known
+numbers_of : (tables : ProcessTables) (es known : List Tree) → ((k e : ℕ) → slice_get tables.entries k ≡ Some e → slice_get es e ≡ slice_get known k) → length tables.entries ≡ length known
     → (ks : List ℕ) (ts : List Tree) → map (slice_get known) ks ≡ map (λ x. Some x) ts → Numbers tables es ks ts
 numbers_of tables es known same many [] [] h = record { js = []; are = refl; entries = refl; many = refl }
 numbers_of tables es known same many [] (t ∷ ts) h = absurd (cc)
@@ -66,11 +67,11 @@ some_number k j js e = cc
 taken_there : {facts rest : Pile} {k : ℕ} {f : Fact} → Takes facts (k ∷ []) (f ∷ []) rest → slice_get facts k ≡ Some (Some f)
 taken_there {facts = facts} {k = k} h = let head = head_of h in ap (slice_get facts) (sym (some_number k head.number head.others head.numbers)) ∙ head.is
 
-module _ (laws : Laws) (g : Sig) (W : Tree → Type 0) (p q : Proc) (hold : HoldsBuiltins g) (ready : IsReady g p) (small : node_count p < 2 ^ 64) (annotated : IsAnnotation p q) (agents : List (Option Agent)) (pending : Option Tree) (lines : List PStep) (c : Config) (es : List Tree) (tr : Trace) (s : RuleState) (full : Trace) (w : IsAlong g W q agents pending lines c es tr s full) (tables : Tables) (table : AreTables agents pending c es s tables) where
+module _ (laws : Laws) (g : Sig) (W : Tree → Type 0) (p q : Proc) (hold : HoldsBuiltins g) (ready : IsReady g p) (small : node_count p < 2 ^ 64) (annotated : IsAnnotation p q) (agents : List (Option Agent)) (pending : Option Tree) (lines : List PStep) (c : Config) (es : List Tree) (tr : Trace) (s : RuleState) (full : Trace) (w : IsAlong g W q agents pending lines c es tr s full) (tables : ProcessTables) (table : AreProcessTables agents pending c es s tables) where
   pub fresh_line : (n : ℕ) → ¬ Contains s.made n → IsContinued g W q agents pending lines c es s full tables (rline.Fresh n) (state.makes s n) []
   fresh_line n unmade =
       followed g W q laws.one_form laws.decide agents pending lines c es tr s full w [] agents (state.makes s n) [] tables (come tables (n ∷ [])) pending (rline.Fresh n) [] c (by_none g W q laws.one_form laws.decide agents pending lines c es tr s full w [] agents (state.makes s n) [] (law laws g W p q hold ready small annotated agents pending lines c es tr s full w tables table _ laws.follows_fresh n unmade) refl w.known w.within)
-      (IsWritten.makes n, λ fs i. (refl, kept refl refl i))
+      (IsWrittenAsProcess.makes n, λ fs i. (refl, kept refl refl i))
 
   pub learn_line : (k : ℕ) (t : Tree) (rest : Pile) → Takes s.facts (k ∷ []) (out_fact t ∷ []) rest → IsContinued g W q agents pending lines c es s full tables (rline.Learn k) (gains (leaves s rest) t) []
   learn_line k t rest takes =
@@ -78,7 +79,7 @@ module _ (laws : Laws) (g : Sig) (W : Tree → Type 0) (p q : Proc) (hold : Hold
       let sent = w.together.related.knowledge.outs head.number (out_fact t) head.is t refl in
       let number = numbered laws g W q agents pending c tr s full w.together.related es tables table k (out_fact t) (taken_there takes) in
       followed g W q laws.one_form laws.decide agents pending lines c es tr s full w [] agents (gains (leaves s rest) t) [] tables (enters tables number.0) pending (rline.Learn k) [] c (by_none g W q laws.one_form laws.decide agents pending lines c es tr s full w [] agents (gains (leaves s rest) t) [] (law laws g W p q hold ready small annotated agents pending lines c es tr s full w tables table _ laws.follows_learn k t rest takes) refl
-      (pushed_cases s.known t (λ x. Contains es x) w.known (w.sent t (contains sent))) w.within) (IsWritten.learns k number.0 number.1, λ fs i. (t, rest, takes, refl, kept refl refl i))
+      (pushed_cases s.known t (λ x. Contains es x) w.known (w.sent t (contains sent))) w.within) (IsWrittenAsProcess.learns k number.0 number.1, λ fs i. (t, rest, takes, refl, kept refl refl i))
 
   pub own_line : (k n : ℕ) (rest : Pile) → Takes s.facts (k ∷ []) (fr_fact n ∷ []) rest → IsContinued g W q agents pending lines c es s full tables (rline.Own k) (gains (leaves s rest) (fresh n)) []
   own_line k n rest takes =
@@ -89,7 +90,7 @@ module _ (laws : Laws) (g : Sig) (W : Tree → Type 0) (p q : Proc) (hold : Hold
       let o = one_move g c (owns c n) (move.adversary_makes n) [] f.process in
       record {
         more = line.Name n ∷ [];
-        written = IsWritten.owns k n live number_is;
+        written = IsWrittenAsProcess.owns k n live number_is;
         next = agents;
         later = pending;
         behind = with_known (enters tables tables.known);
@@ -111,7 +112,7 @@ module _ (laws : Laws) (g : Sig) (W : Tree → Type 0) (p q : Proc) (hold : Hold
       let f = law laws g W p q hold ready small annotated agents pending lines c es tr s full w tables table _ laws.follows_public a in
       record {
         more = line.Public a ∷ [];
-        written = IsWritten.writes a;
+        written = IsWrittenAsProcess.writes a;
         next = agents;
         later = pending;
         behind = with_known (enters tables tables.known);
@@ -130,7 +131,7 @@ module _ (laws : Laws) (g : Sig) (W : Tree → Type 0) (p q : Proc) (hold : Hold
       let ks = numbers_of tables es s.known table.entries table.all_entries numbers ts entries in
       record {
         more = line.Apply f ks.js ∷ [];
-        written = IsWritten.applies f numbers ks.js ks.are;
+        written = IsWrittenAsProcess.applies f numbers ks.js ks.are;
         next = agents;
         later = pending;
         behind = with_known (enters tables tables.known);
@@ -147,4 +148,4 @@ module _ (laws : Laws) (g : Sig) (W : Tree → Type 0) (p q : Proc) (hold : Hold
   know_line k t entry m =
       let number = there_too s.known tables.entries k t (sym table.all_entries) entry in
       followed g W q laws.one_form laws.decide agents pending lines c es tr s full w [] agents (leaves s (adds s.facts (in_fact t ∷ []))) (k_fact t ∷ []) tables (waiting (come tables (0 ∷ [])) (Some number.0)) (Some t) (rline.Know k) (pending_lines tables.pending) c (by_know g W q laws.one_form laws.decide agents pending lines c es tr s full w [] agents (leaves s (adds s.facts (in_fact t ∷ []))) (k_fact t ∷ []) tables.pending t table.waits (law laws g W p q hold ready small annotated agents pending lines c es tr s full w tables table _ laws.follows_give t m) refl (w.known t m) refl w.within)
-      (IsWritten.knows k number.0 t entry number.1, λ fs i. (refl, kept refl refl i))
+      (IsWrittenAsProcess.knows k number.0 t entry number.1, λ fs i. (refl, kept refl refl i))

@@ -14,12 +14,13 @@ use Rattle.sap_terms.specs.declared.fact.Fact.{Fact}
 use Rattle.sap_process.specs.Configuration.{Config}
 use Rattle.sap_process.specs.Proc.{Proc}
 use Rattle.sap_rule.specs.RuleSteps.{RuleState}
-use Rattle.sap_translate.specs.ChannelFacts.{fresh_fact}
+use Rattle.sap_templates.specs.ChannelFacts.{fresh_fact}
 use Rattle.sap_translate.specs.Members.{Member}
 use Rattle.sap_translate.specs.relation.Agents.{Agent, unborn, stands_as}
 use Rattle.sap_translate.specs.relation.Counts.{is_control}
-use Rattle.sap_back.proofs.owners.Facts.{names_apart, not_reserved}
-use Rattle.sap_back.specs.Tables.{Tables, AreTables, IsPending}
+use Rattle.sap_translate.proofs.Shared.Facts.{names_apart, not_reserved}
+use Rattle.sap_process_lines.specs.Tables.{ProcessTables}
+use Rattle.sap_back.specs.Tables.{AreProcessTables, IsPending}
 
 -- lists
 
@@ -120,7 +121,7 @@ module _ (agents next : List (Option Agent)) (c d : Config) (fs : List Tree) whe
   name_of x same (piled {f = f} u e k) = absurd (let z : true ≡ false = ap (λ (z : Fact). is_reserved z.name) (sym same) ∙ u in cc)
 
 -- What a line changes: which facts stay and which come, with their numbers; and the entries.
-pub record Change (agents : List (Option Agent)) (c : Config) (es : List Tree) (s : RuleState) (tables : Tables) (next : List (Option Agent)) (later : Option Tree) (d : Config) (fs : List Tree) (z : RuleState) (behind : Tables) : Type 0 where
+pub record Change (agents : List (Option Agent)) (c : Config) (es : List Tree) (s : RuleState) (tables : ProcessTables) (next : List (Option Agent)) (later : Option Tree) (d : Config) (fs : List Tree) (z : RuleState) (behind : ProcessTables) : Type 0 where
   pub rest : Pile
   pub right : List Fact
   pub numbers : List ℕ
@@ -148,7 +149,7 @@ pub record Change (agents : List (Option Agent)) (c : Config) (es : List Tree) (
   pub known : behind.known ≡ length fs
   pub piled : behind.piled ≡ length d.facts
 
-module _ (agents : List (Option Agent)) (pending : Option Tree) (c : Config) (es : List Tree) (s : RuleState) (tables : Tables) (old : AreTables agents pending c es s tables) (next : List (Option Agent)) (later : Option Tree) (d : Config) (fs : List Tree) (z : RuleState) (behind : Tables) (h : Change agents c es s tables next later d fs z behind) where
+module _ (agents : List (Option Agent)) (pending : Option Tree) (c : Config) (es : List Tree) (s : RuleState) (tables : ProcessTables) (old : AreProcessTables agents pending c es s tables) (next : List (Option Agent)) (later : Option Tree) (d : Config) (fs : List Tree) (z : RuleState) (behind : ProcessTables) (h : Change agents c es s tables next later d fs z behind) where
   -- a live fact behind, with its number
   found : (k t : ℕ) (f : Fact) → slice_get z.facts k ≡ Some (Some f) → slice_get behind.facts k ≡ Some t → StaysOrComes h.rest h.right tables.facts h.numbers k f t
   found k t f e n = stays_or_comes h.rest h.right tables.facts h.numbers k f t (h.size ∙ sym old.all_facts) (ap (λ xs. slice_get xs k) (sym h.facts) ∙ e) (ap (λ xs. slice_get xs k) (sym h.numbered) ∙ n)
@@ -231,7 +232,7 @@ module _ (agents : List (Option Agent)) (pending : Option Tree) (c : Config) (es
       omega arith
 
   -- so they are the tables behind
-  pub changed : AreTables next later d fs z behind
+  pub changed : AreProcessTables next later d fs z behind
   changed = record {
     owners = owners;
     apart = apart;

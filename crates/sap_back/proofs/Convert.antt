@@ -29,17 +29,18 @@ use Rattle.sap_lines.specs.Runs.{IsLegalProcessRun}
 use Rattle.sap_steps.specs.Lines.{IsLine, IsRuleLine}
 use Rattle.sap_steps.specs.Marks.{marks}
 use Rattle.sap_steps.specs.Runs.{IsLegalRun}
-use Rattle.sap_translate.specs.Places.{root, scoped_place_at}
-use Rattle.sap_translate.specs.Templates as rules
-use Rattle.sap_translate.specs.Templates.{rules_of, own_rules}
+use Rattle.sap_templates.specs.Places.{root, scoped_place_at}
+use Rattle.sap_templates.specs.Templates as rules
+use Rattle.sap_templates.specs.Templates.{rules_of, own_rules}
 use Rattle.sap_translate.specs.relation.Agents.{Agent, unborn}
 use Rattle.sap_translate.specs.relation.Followed.{IsFollowed}
 use Rattle.sap_translate.specs.relation.Related.{Free}
 use Rattle.sap_back.specs.Along.{IsAlong, SentWithin, BeginsAlong}
 use Rattle.sap_back.specs.Followed.{EndsTabled, LinesAreFollowed, pending_lines}
-use Rattle.sap_back.specs.Tables.{AreTables, Tables, first_tables}
+use Rattle.sap_process_lines.specs.Tables.{ProcessTables, first_process_tables}
+use Rattle.sap_back.specs.Tables.{AreProcessTables}
 use Rattle.sap_back.proofs.Named.{found_among, found_named}
-use Rattle.sap_back.specs.Opposite.{HasOpposites}
+use Rattle.sap_back.specs.Opposite.{HasOppositeProcessRuns}
 use Rattle.sap_back.proofs.Acknowledged.{out_ack_case, init_case}
 use Rattle.sap_back.proofs.Advance.{length_push, pending_written}
 use Rattle.sap_back.proofs.Adversary.{fresh_line, learn_line, own_line, public_line, apply_line, know_line}
@@ -61,8 +62,8 @@ record GoesAlong (g : Sig) (W : Tree → Type 0) (start : Proc) (s : RuleState) 
   entries : List Tree
   trace : Trace
   is : IsAlong g W start agents pending lines config entries trace s full
-  tables : Tables
-  table : AreTables agents pending config entries s tables
+  tables : ProcessTables
+  table : AreProcessTables agents pending config entries s tables
 
 -- what holds of each that is contained holds of all
 each_item : {A : Type 0} (P : A → Type 0) (xs : List A) → ((x : A) → Contains xs x → P x) → All P xs
@@ -78,7 +79,7 @@ one_of_three : {A : Type 0} (P : A → Type 0) (x y w z : A) → P x → P y →
 one_of_three P x y w z a b d m = elim (cons_cases x (y ∷ w ∷ []) z m) [ inl e ↦ subst P e a | inr k ↦ one_of_two P y w z b d k ]
 
 module _ (laws : Laws) (g : Sig) (p q : Proc) (hold : HoldsBuiltins g) (ready : IsReady g p) (small : node_count p < 2 ^ 64) (annotated : IsAnnotation p q) where
-  module _ (agents : List (Option Agent)) (pending : Option Tree) (lines : List PStep) (c : Config) (es : List Tree) (tr : Trace) (s : RuleState) (full : Trace) (w : IsAlong g HasFewNodes q agents pending lines c es tr s full) (tables : Tables) (table : AreTables agents pending c es s tables) where
+  module _ (agents : List (Option Agent)) (pending : Option Tree) (lines : List PStep) (c : Config) (es : List Tree) (tr : Trace) (s : RuleState) (full : Trace) (w : IsAlong g HasFewNodes q agents pending lines c es tr s full) (tables : ProcessTables) (table : AreProcessTables agents pending c es s tables) where
     -- lines go along with a use of the rule, whatever it takes
     abbrev Followable : Rule → Type 0
     Followable r = (ks : List ℕ) (b : List Binding) (σ : Choice) (left acts right : List Fact) (rest : Pile) → Fired g HasFewNodes s full r ks b σ left acts right rest → Goes laws g HasFewNodes p q hold ready small annotated agents pending lines c es tr s full w tables table r.name ks b rest acts right
@@ -200,7 +201,7 @@ module _ (laws : Laws) (g : Sig) (p q : Proc) (hold : HoldsBuiltins g) (ready : 
   admitted_before s full acts run h which = laws.prefix which g full (acts ∷ []) (laws.messages g q (full ++ acts ∷ []) hold (laws.over g p q ready annotated) (s, run)) (h which)
 
   along : (rule_lines : List RStep) (s : RuleState) (full : Trace) → IsLegalRun g (rules_of q) HasFewNodes rule_lines s full → IsAdmitted g full → GoesAlong g HasFewNodes q s full
-  along rule_lines s full IsLegalRun.starts h = record { agents = Some (unborn q) ∷ []; pending = None; lines = []; config = initial q; entries = []; trace = []; is = begins_along; tables = first_tables; table = begins_tabled q }
+  along rule_lines s full IsLegalRun.starts h = record { agents = Some (unborn q) ∷ []; pending = None; lines = []; config = initial q; entries = []; trace = []; is = begins_along; tables = first_process_tables; table = begins_tabled q }
   along rule_lines s full (IsLegalRun.further {lines = before} {s = y} {full = seen} l acts run is) h =
       let a = along before y seen run (admitted_before s seen acts (laws.runs g (rules_of q) (before ++ l ∷ []) s (seen ++ acts ∷ []) (IsLegalRun.further l acts run is)) h) in
       let f = lines_followed a.agents a.pending a.lines a.config a.entries a.trace y s seen a.tables l acts a.is a.table is h in
@@ -215,7 +216,7 @@ module _ (laws : Laws) (g : Sig) (p q : Proc) (hold : HoldsBuiltins g) (ready : 
       let b = length_push seen acts in
       omega arith
 
-  pub have_opposites : HasOpposites g q
+  pub have_opposites : HasOppositeProcessRuns g q
   have_opposites rule_lines s full legal admitted =
       let a = along rule_lines s full legal admitted in
       let b = pending_written g HasFewNodes q a.agents a.pending a.tables.pending a.lines a.config a.entries a.trace s full a.table.waits a.is in

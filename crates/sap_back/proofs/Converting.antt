@@ -17,13 +17,14 @@ use Rattle.sap_steps.specs.Marks.{marks}
 use Rattle.sap_steps.specs.Runs.{IsLegalRun}
 use Rattle.sap_steps.specs.State.{State}
 use Rattle.sap_translate.specs.LineCounts.{back_count}
-use Rattle.sap_translate.specs.Templates.{rules_of}
+use Rattle.sap_templates.specs.Templates.{rules_of}
 use Rattle.sap_translate.specs.relation.Agents.{Agent, unborn}
 use Rattle.sap_back.specs.Along.{BeginsAlong, IsAlong, count_pending}
-use Rattle.sap_back.specs.Converted.{IsConverted}
+use Rattle.sap_back.specs.Converted.{IsConvertedToProcess}
 use Rattle.sap_back.specs.Followed.{BeginsTabled, LinesAreFollowed, EndsTabled, pending_lines}
-use Rattle.sap_back.specs.LinesFor.{AreLinesForAll, no_lines}
-use Rattle.sap_back.specs.Tables.{AreTables, Tables, first_tables}
+use Rattle.sap_back.specs.LinesFor.{AreProcessLinesForAll, no_lines}
+use Rattle.sap_process_lines.specs.Tables.{ProcessTables, first_process_tables}
+use Rattle.sap_back.specs.Tables.{AreProcessTables}
 use Rattle.sap_back.specs.code.Replayed.{IsReplayed}
 use Rattle.sap_back.specs.code.Taken.{IsConvertedLine}
 use Rattle.sap_back.proofs.Counting.{back_count_next, pending_count, written_count}
@@ -31,7 +32,7 @@ use Rattle.sap_back.proofs.Turns.{one_more_is, written_lines}
 use Rattle.sap_back.proofs.Replaying.{replayed_next, taken_line}
 
 -- these lines of rules are replayed, lines of the process go along with them, and the tables are theirs
-pub record IsConverting (g : Sig) (q : Proc) (s : State) (m : Machine) (tables : Tables) (before : List RStep) (lines : List PStep) : Type 0 where
+pub record IsConverting (g : Sig) (q : Proc) (s : State) (m : Machine) (tables : ProcessTables) (before : List RStep) (lines : List PStep) : Type 0 where
   pub full : Trace
   pub replayed : IsReplayed g q s m before full
   pub agents : List (Option Agent)
@@ -40,15 +41,15 @@ pub record IsConverting (g : Sig) (q : Proc) (s : State) (m : Machine) (tables :
   pub entries : List Tree
   pub trace : Trace
   pub along : IsAlong g HasFewNodes q agents pending lines config entries trace s.at full
-  pub tabled : AreTables agents pending config entries s.at tables
+  pub tabled : AreProcessTables agents pending config entries s.at tables
   -- they are as many as are counted, without the one for what is pending
   pub count : length lines + count_pending pending ≡ back_count before
   -- they stand in turn, without what is pending
-  pub turns : AreLinesForAll None before full lines tables.pending
+  pub turns : AreProcessLinesForAll None before full lines tables.pending
 
 module _ (g : Sig) (q : Proc) where
   -- before the first line
-  pub converting_first : BeginsAlong g q → BeginsTabled q → (s : State) (m : Machine) (tables : Tables) → s.at ≡ empty_state → tables ≡ first_tables → IsReplayed g q s m [] [] → IsConverting g q s m tables [] []
+  pub converting_first : BeginsAlong g q → BeginsTabled q → (s : State) (m : Machine) (tables : ProcessTables) → s.at ≡ empty_state → tables ≡ first_process_tables → IsReplayed g q s m [] [] → IsConverting g q s m tables [] []
   converting_first begins begins_tabled s m tables at first r = record {
     full = [];
     replayed = r;
@@ -58,13 +59,13 @@ module _ (g : Sig) (q : Proc) where
     entries = [];
     trace = [];
     along = subst (λ z. IsAlong g HasFewNodes q (Some (unborn q) ∷ []) None [] (initial q) [] [] z []) (sym at) begins;
-    tabled = subst (λ z. AreTables (Some (unborn q) ∷ []) None (initial q) [] z tables) (sym at) (subst (AreTables (Some (unborn q) ∷ []) None (initial q) [] empty_state) (sym first) begins_tabled);
+    tabled = subst (λ z. AreProcessTables (Some (unborn q) ∷ []) None (initial q) [] z tables) (sym at) (subst (AreProcessTables (Some (unborn q) ∷ []) None (initial q) [] empty_state) (sym first) begins_tabled);
     count = refl;
-    turns = subst (λ (k : Option ℕ). AreLinesForAll None [] [] [] k) (sym (ap (λ (z : Tables). z.pending) first)) no_lines;
+    turns = subst (λ (k : Option ℕ). AreProcessLinesForAll None [] [] [] k) (sym (ap (λ (z : ProcessTables). z.pending) first)) no_lines;
   }
 
   -- behind one more line
-  pub converting_next : LinesAreFollowed g q → (s t : State) (m n : Machine) (tables after : Tables) (before : List RStep) (step : RStep) (lines longer : List PStep) → IsConverting g q s m tables before lines
+  pub converting_next : LinesAreFollowed g q → (s t : State) (m n : Machine) (tables after : ProcessTables) (before : List RStep) (step : RStep) (lines longer : List PStep) → IsConverting g q s m tables before lines
       → IsConvertedLine s t m n tables after step lines longer → IsConverting g q t n after (before ++ step ∷ []) longer
   converting_next followed s t m n tables after before step lines longer w k =
       let r = replayed_next g q s m before w.full w.replayed t n step k.acts k.taken in
@@ -84,9 +85,9 @@ module _ (g : Sig) (q : Proc) where
         entries = f.entries;
         trace = f.trace;
         along = subst (λ z. IsAlong g HasFewNodes q f.next f.later z f.config f.entries f.trace t.at (w.full ++ k.acts ∷ [])) (sym written.0) f.is;
-        tabled = subst (AreTables f.next f.later f.config f.entries t.at) (sym written.1) f.tabled;
+        tabled = subst (AreProcessTables f.next f.later f.config f.entries t.at) (sym written.1) f.tabled;
         count = omega arith;
-        turns = subst (λ (z : Tables). AreLinesForAll None (before ++ step ∷ []) (w.full ++ k.acts ∷ []) longer z.pending) (sym written.1)
+        turns = subst (λ (z : ProcessTables). AreProcessLinesForAll None (before ++ step ∷ []) (w.full ++ k.acts ∷ []) longer z.pending) (sym written.1)
             (one_more_is None tables.pending f.behind.pending before w.full step k.acts lines f.more longer written.0 w.turns (written_lines f.written));
       }
 
@@ -100,8 +101,8 @@ module _ (g : Sig) (q : Proc) where
       omega arith
 
   -- behind the last line, once what is pending is written
-  pub converted : EndsTabled g q → (s : State) (m : Machine) (tables : Tables) (rule_lines : List RStep) (lines all : List PStep) → IsConverting g q s m tables rule_lines lines → all ≡ lines ++ pending_lines tables.pending
-      → IsConverted g q rule_lines all
+  pub converted : EndsTabled g q → (s : State) (m : Machine) (tables : ProcessTables) (rule_lines : List RStep) (lines all : List PStep) → IsConverting g q s m tables rule_lines lines → all ≡ lines ++ pending_lines tables.pending
+      → IsConvertedToProcess g q rule_lines all
   converted ends s m tables rule_lines lines all w written =
       let legal = ends w.agents w.pending lines w.config w.entries w.trace s.at w.full tables w.along w.tabled.waits in
       let last = pending_count w.entries w.pending tables.pending w.tabled.waits in
@@ -126,7 +127,7 @@ module _ (g : Sig) (q : Proc) where
 
 -- one more line, where a loop over the lines has reached the one with number k
 module _ (g : Sig) (q : Proc) (run : List RStep) (k : ℕ) (line : RStep) (there : slice_get run k ≡ Some line) where
-  pub looped_converting : LinesAreFollowed g q → (s t : State) (m n : Machine) (tables after : Tables) (lines longer : List PStep) → IsConverting g q s m tables (take k run) lines
+  pub looped_converting : LinesAreFollowed g q → (s t : State) (m n : Machine) (tables after : ProcessTables) (lines longer : List PStep) → IsConverting g q s m tables (take k run) lines
       → IsConvertedLine s t m n tables after line lines longer → IsConverting g q t n after (take (k + 1) run) longer
   looped_converting followed s t m n tables after lines longer w h =
       subst (λ b. IsConverting g q t n after b longer) (sym (take_got run k line there)) (converting_next g q followed s t m n tables after (take k run) line lines longer w h)

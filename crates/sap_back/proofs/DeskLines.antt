@@ -11,15 +11,16 @@ use Rattle.sap_runs.specs.declared.process_step.PStep.TheVariants as line
 use Rattle.sap_runs.specs.declared.rule_step.RStep.{RStep}
 use Rattle.sap_rule.specs.RuleSteps.{RuleState}
 use Rattle.sap_translate.specs.relation.Agents.{Agent}
-use Rattle.sap_back.specs.Followed.{IsWritten, lines_before, left_pending, numbers_from, pending_lines, with_pile}
-use Rattle.sap_back.specs.Tables.{Tables, come, with_known, enters, waiting}
-use Rattle.sap_back.specs.code.Desk.{Writes}
-use Rattle.sap_back.specs.code.Told.{Gives, before_all, left_if, lines_if, numbers_of, told_embedded, told, told_at, told_where}
-use Rattle.sap_back.specs.declared.kind.Kind.{Kind}
-use Rattle.sap_back.specs.declared.kind.Kind.TheVariants as kind
+use Rattle.sap_back.specs.Followed.{IsWrittenAsProcess, lines_before, left_pending, pending_lines}
+use Rattle.sap_rule_lines.specs.RuleLines.{numbers_from}
+use Rattle.sap_process_lines.specs.Tables.{with_pile, ProcessTables, come, with_known, enters, waiting}
+use Rattle.sap_back.specs.code.Desk.{WritesProcess}
+use Rattle.sap_process_lines.specs.Told.{GivesTold, before_all, left_if, lines_if, numbers_of, told_embedded, told, told_at, told_where}
+use Rattle.sap_process_lines.specs.declared.kind.Kind.{Kind}
+use Rattle.sap_process_lines.specs.declared.kind.Kind.TheVariants as kind
 
 -- what is told for a rule that is used on the fact of a thread
-at_seat : (t : Tables) (of : Kind) (k n : ℕ) (ks : List ℕ) (b : List Binding) (shows : Bool) (count : ℕ) → slice_get t.facts k ≡ Some n
+at_seat : (t : ProcessTables) (of : Kind) (k n : ℕ) (ks : List ℕ) (b : List Binding) (shows : Bool) (count : ℕ) → slice_get t.facts k ≡ Some n
     → told_where t (Some of) (slice_get t.facts k) ks b shows count ≡ told_at t of n ks b shows count
 at_seat t of k n ks b shows count e = ap (λ (o : Option ℕ). told_where t (Some of) o ks b shows count) e
 
@@ -39,7 +40,7 @@ many_numbers n zero = refl
 many_numbers n (suc k) = let more = many_numbers (n + 1) k in omega arith
 
 -- how many facts of the process come is what is left of how many came
-facts_left : (t : Tables) (n many count : ℕ) → length (with_pile t n many).facts ≡ count → count - length t.facts - 1 ≡ many
+facts_left : (t : ProcessTables) (n many count : ℕ) → length (with_pile t n many).facts ≡ count → count - length t.facts - 1 ≡ many
 facts_left t n many count e = omega (arith, many_numbers t.piled many, length-append t.facts (n ∷ numbers_from t.piled many))
 
 -- what is written first is told by whether facts are shown
@@ -57,7 +58,7 @@ left_shown false [] k h = refl
 left_shown false (f ∷ fs) k h = let some : false ≡ true = h.1 (omega arith) in cc
 
 -- what is told for an embedded rule
-embedded_told : (t : Tables) (n k : ℕ) (js ks : List ℕ) (b : List Binding) (shows : Bool) (count many : ℕ) (acts : List Fact) → map (slice_get t.facts) js ≡ map Some ks
+embedded_told : (t : ProcessTables) (n k : ℕ) (js ks : List ℕ) (b : List Binding) (shows : Bool) (count many : ℕ) (acts : List Fact) → map (slice_get t.facts) js ≡ map Some ks
     → length (with_pile t n many).facts ≡ count → (IsTrue shows ↔ (0 < length acts))
     → told_embedded t n (k ∷ js) b shows count
     ≡ Some (lines_before acts t.pending ++ line.Embedded n ks b ∷ [], waiting (with_pile t n many) (left_pending acts t.pending))
@@ -71,56 +72,56 @@ embedded_told t n k js ks b shows count many acts all counts flag =
     ∙ ap (λ (ls : List PStep). from many ls (left_if shows t.pending) (Some ks)) first
     ∙ ap (λ (p : Option ℕ). from many (lines_before acts t.pending) p (Some ks)) last
   where
-    from : ℕ → List PStep → Option ℕ → Option (List ℕ) → Option (List PStep × Tables)
-    from i ls p o = option_map {U = List PStep × Tables} (λ (is : List ℕ). (ls ++ line.Embedded n is b ∷ [], waiting (with_pile t n i) p)) o
+    from : ℕ → List PStep → Option ℕ → Option (List ℕ) → Option (List PStep × ProcessTables)
+    from i ls p o = option_map {U = List PStep × ProcessTables} (λ (is : List ℕ). (ls ++ line.Embedded n is b ∷ [], waiting (with_pile t n i) p)) o
 
 -- what is told for each line for which lines are written
-told_is_written : (g : Sig) (agents : List (Option Agent)) (pending : Option Tree) (s : RuleState) (t : Tables) (step : RStep) (shows : Bool) (count : ℕ) (acts : List Fact) (more : List PStep) (next : List (Option Agent)) (later : Option Tree) (tables : Tables)
-    → IsWritten g agents pending s t step acts more next later tables → length tables.facts ≡ count → (IsTrue shows ↔ (0 < length acts))
+told_is_written : (g : Sig) (agents : List (Option Agent)) (pending : Option Tree) (s : RuleState) (t : ProcessTables) (step : RStep) (shows : Bool) (count : ℕ) (acts : List Fact) (more : List PStep) (next : List (Option Agent)) (later : Option Tree) (tables : ProcessTables)
+    → IsWrittenAsProcess g agents pending s t step acts more next later tables → length tables.facts ≡ count → (IsTrue shows ↔ (0 < length acts))
     → told t step shows count ≡ Some (more, tables)
-told_is_written g agents pending s t step shows count acts more next later tables (IsWritten.starts n body b at none) counts flag = ap (λ (m : ℕ). Some ([], come t (m ∷ []))) (sym none)
-told_is_written g agents pending s t step shows count acts more next later tables (IsWritten.ends n k path env b seat) counts flag = at_seat t kind.Nil k n (k ∷ []) b shows count seat.number
-told_is_written g agents pending s t step shows count acts more next later tables (IsWritten.splits n k path env b p q seat) counts flag = at_seat t kind.Par k n (k ∷ []) b shows count seat.number
-told_is_written g agents pending s t step shows count acts more next later tables (IsWritten.starts_copies n k path env b p seat) counts flag = at_seat t kind.RepStart k n (k ∷ []) b shows count seat.number
-told_is_written g agents pending s t step shows count acts more next later tables (IsWritten.copies n k path env b p stands number) counts flag = at_seat t kind.RepCopy k n (k ∷ []) b shows count number
-told_is_written g agents pending s t step shows count acts more next later tables (IsWritten.makes_name n k j m path env b x p seat made number) counts flag =
-    at_seat t kind.New k n (k ∷ j ∷ []) b shows count seat.number ∙ ap (option_map {U = List PStep × Tables} (λ (i : ℕ). (line.New n i ∷ [], come t (n ∷ [])))) number
-told_is_written g agents pending s t step shows count acts more next later tables (IsWritten.outputs n k path env b m p seat) counts flag = at_seat t kind.Out k n (k ∷ []) b shows count seat.number
-told_is_written g agents pending s t step shows count acts more next later tables (IsWritten.outputs_on n k j e path env b m u p seat is) counts flag =
-    at_seat t kind.OutAdv k n (k ∷ j ∷ []) b shows count seat.number ∙ ap (option_map {U = List PStep × Tables} (λ (i : ℕ). (line.Send n i ∷ [], waiting (with_known (come t (t.known ∷ n ∷ []))) None))) is
-told_is_written g agents pending s t step shows count acts more next later tables (IsWritten.sends n k j i path env b m u x v p seat first second) counts flag = at_seat t kind.OutMsg k n (k ∷ j ∷ []) b shows count seat.number
-told_is_written g agents pending s t step shows count acts more next later tables (IsWritten.goes_on n k j i path env b m u p at waits number) counts flag = at_seat t kind.OutAck k n (k ∷ j ∷ []) b shows count number
-told_is_written g agents pending s t step shows count acts more next later tables (IsWritten.inputs n k j e path env b m σ p seat is) counts flag =
-    at_seat t kind.In k n (k ∷ j ∷ []) b shows count seat.number ∙ ap (option_map {U = List PStep × Tables} (λ (i : ℕ). (line.In n i ∷ [], waiting (come t (n ∷ [])) None))) is
-told_is_written g agents pending s t step shows count acts more next later tables (IsWritten.inputs_on n k j e path env b m u σ p seat is) counts flag =
-    at_seat t kind.In k n (k ∷ j ∷ []) b shows count seat.number ∙ ap (option_map {U = List PStep × Tables} (λ (i : ℕ). (line.In n i ∷ [], waiting (come t (n ∷ [])) None))) is
-told_is_written g agents pending s t step shows count acts more next later tables (IsWritten.meets a n k j i at path other env b m u x v l r σ p q sender message number seat) counts flag =
-    at_seat t kind.InMsg k n (k ∷ j ∷ []) b shows count seat.number ∙ ap (option_map {U = List PStep × Tables} (λ (h : ℕ). (line.Sync h n ∷ [], come t (h ∷ n ∷ [])))) number
-told_is_written g agents pending s t step shows count acts more next later tables (IsWritten.shows n k path env b f p seat) counts flag = at_seat t kind.Event k n (k ∷ []) b shows count seat.number
-told_is_written g agents pending s t step shows count acts more next later tables (IsWritten.inserts n k path env b m u p seat) counts flag = at_seat t kind.Insert k n (k ∷ []) b shows count seat.number
-told_is_written g agents pending s t step shows count acts more next later tables (IsWritten.deletes n k path env b m p seat) counts flag = at_seat t kind.Delete k n (k ∷ []) b shows count seat.number
-told_is_written g agents pending s t step shows count acts more next later tables (IsWritten.locks n k j i path env b m l p seat) counts flag = at_seat t kind.Lock k n (k ∷ j ∷ []) b shows count seat.number
-told_is_written g agents pending s t step shows count acts more next later tables (IsWritten.unlocks n k path env b m l p seat) counts flag = at_seat t kind.Unlock k n (k ∷ []) b shows count seat.number
-told_is_written g agents pending s t step shows count acts more next later tables (IsWritten.agrees n k path env b m u p q seat) counts flag = at_seat t kind.Then k n (k ∷ []) b shows count seat.number
-told_is_written g agents pending s t step shows count acts more next later tables (IsWritten.differs n k path env b m u p q seat) counts flag = at_seat t kind.Else k n (k ∷ []) b shows count seat.number
-told_is_written g agents pending s t step shows count acts more next later tables (IsWritten.finds n k path env b m v y p q seat) counts flag = at_seat t kind.Found k n (k ∷ []) b shows count seat.number
-told_is_written g agents pending s t step shows count acts more next later tables (IsWritten.misses n k path env b m y p q seat) counts flag = at_seat t kind.Missing k n (k ∷ []) b shows count seat.number
-told_is_written g agents pending s t step shows count acts more next later tables (IsWritten.embeds n k js ks path env b l a o σ p seat all) counts flag =
+told_is_written g agents pending s t step shows count acts more next later tables (IsWrittenAsProcess.starts n body b at none) counts flag = ap (λ (m : ℕ). Some ([], come t (m ∷ []))) (sym none)
+told_is_written g agents pending s t step shows count acts more next later tables (IsWrittenAsProcess.ends n k path env b seat) counts flag = at_seat t kind.Nil k n (k ∷ []) b shows count seat.number
+told_is_written g agents pending s t step shows count acts more next later tables (IsWrittenAsProcess.splits n k path env b p q seat) counts flag = at_seat t kind.Par k n (k ∷ []) b shows count seat.number
+told_is_written g agents pending s t step shows count acts more next later tables (IsWrittenAsProcess.starts_copies n k path env b p seat) counts flag = at_seat t kind.RepStart k n (k ∷ []) b shows count seat.number
+told_is_written g agents pending s t step shows count acts more next later tables (IsWrittenAsProcess.copies n k path env b p stands number) counts flag = at_seat t kind.RepCopy k n (k ∷ []) b shows count number
+told_is_written g agents pending s t step shows count acts more next later tables (IsWrittenAsProcess.makes_name n k j m path env b x p seat made number) counts flag =
+    at_seat t kind.New k n (k ∷ j ∷ []) b shows count seat.number ∙ ap (option_map {U = List PStep × ProcessTables} (λ (i : ℕ). (line.New n i ∷ [], come t (n ∷ [])))) number
+told_is_written g agents pending s t step shows count acts more next later tables (IsWrittenAsProcess.outputs n k path env b m p seat) counts flag = at_seat t kind.Out k n (k ∷ []) b shows count seat.number
+told_is_written g agents pending s t step shows count acts more next later tables (IsWrittenAsProcess.outputs_on n k j e path env b m u p seat is) counts flag =
+    at_seat t kind.OutAdv k n (k ∷ j ∷ []) b shows count seat.number ∙ ap (option_map {U = List PStep × ProcessTables} (λ (i : ℕ). (line.Send n i ∷ [], waiting (with_known (come t (t.known ∷ n ∷ []))) None))) is
+told_is_written g agents pending s t step shows count acts more next later tables (IsWrittenAsProcess.sends n k j i path env b m u x v p seat first second) counts flag = at_seat t kind.OutMsg k n (k ∷ j ∷ []) b shows count seat.number
+told_is_written g agents pending s t step shows count acts more next later tables (IsWrittenAsProcess.goes_on n k j i path env b m u p at waits number) counts flag = at_seat t kind.OutAck k n (k ∷ j ∷ []) b shows count number
+told_is_written g agents pending s t step shows count acts more next later tables (IsWrittenAsProcess.inputs n k j e path env b m σ p seat is) counts flag =
+    at_seat t kind.In k n (k ∷ j ∷ []) b shows count seat.number ∙ ap (option_map {U = List PStep × ProcessTables} (λ (i : ℕ). (line.In n i ∷ [], waiting (come t (n ∷ [])) None))) is
+told_is_written g agents pending s t step shows count acts more next later tables (IsWrittenAsProcess.inputs_on n k j e path env b m u σ p seat is) counts flag =
+    at_seat t kind.In k n (k ∷ j ∷ []) b shows count seat.number ∙ ap (option_map {U = List PStep × ProcessTables} (λ (i : ℕ). (line.In n i ∷ [], waiting (come t (n ∷ [])) None))) is
+told_is_written g agents pending s t step shows count acts more next later tables (IsWrittenAsProcess.meets a n k j i at path other env b m u x v l r σ p q sender message number seat) counts flag =
+    at_seat t kind.InMsg k n (k ∷ j ∷ []) b shows count seat.number ∙ ap (option_map {U = List PStep × ProcessTables} (λ (h : ℕ). (line.Sync h n ∷ [], come t (h ∷ n ∷ [])))) number
+told_is_written g agents pending s t step shows count acts more next later tables (IsWrittenAsProcess.shows n k path env b f p seat) counts flag = at_seat t kind.Event k n (k ∷ []) b shows count seat.number
+told_is_written g agents pending s t step shows count acts more next later tables (IsWrittenAsProcess.inserts n k path env b m u p seat) counts flag = at_seat t kind.Insert k n (k ∷ []) b shows count seat.number
+told_is_written g agents pending s t step shows count acts more next later tables (IsWrittenAsProcess.deletes n k path env b m p seat) counts flag = at_seat t kind.Delete k n (k ∷ []) b shows count seat.number
+told_is_written g agents pending s t step shows count acts more next later tables (IsWrittenAsProcess.locks n k j i path env b m l p seat) counts flag = at_seat t kind.Lock k n (k ∷ j ∷ []) b shows count seat.number
+told_is_written g agents pending s t step shows count acts more next later tables (IsWrittenAsProcess.unlocks n k path env b m l p seat) counts flag = at_seat t kind.Unlock k n (k ∷ []) b shows count seat.number
+told_is_written g agents pending s t step shows count acts more next later tables (IsWrittenAsProcess.agrees n k path env b m u p q seat) counts flag = at_seat t kind.Then k n (k ∷ []) b shows count seat.number
+told_is_written g agents pending s t step shows count acts more next later tables (IsWrittenAsProcess.differs n k path env b m u p q seat) counts flag = at_seat t kind.Else k n (k ∷ []) b shows count seat.number
+told_is_written g agents pending s t step shows count acts more next later tables (IsWrittenAsProcess.finds n k path env b m v y p q seat) counts flag = at_seat t kind.Found k n (k ∷ []) b shows count seat.number
+told_is_written g agents pending s t step shows count acts more next later tables (IsWrittenAsProcess.misses n k path env b m y p q seat) counts flag = at_seat t kind.Missing k n (k ∷ []) b shows count seat.number
+told_is_written g agents pending s t step shows count acts more next later tables (IsWrittenAsProcess.embeds n k js ks path env b l a o σ p seat all) counts flag =
     at_seat t kind.Embedded k n (k ∷ js) b shows count seat.number ∙ embedded_told t n k js ks b shows count (length o) acts all counts flag
-told_is_written g agents pending s t step shows count acts more next later tables (IsWritten.makes n) counts flag = refl
-told_is_written g agents pending s t step shows count acts more next later tables (IsWritten.learns k e number) counts flag = ap (option_map {U = List PStep × Tables} (λ (i : ℕ). ([], enters t i))) number
-told_is_written g agents pending s t step shows count acts more next later tables (IsWritten.owns k n made number) counts flag = ap (option_map {U = List PStep × Tables} (λ (i : ℕ). (line.Name i ∷ [], with_known (enters t t.known)))) number
-told_is_written g agents pending s t step shows count acts more next later tables (IsWritten.writes a) counts flag = refl
-told_is_written g agents pending s t step shows count acts more next later tables (IsWritten.applies f ks js all) counts flag =
-    ap (option_map {U = List PStep × Tables} (λ (is : List ℕ). (line.Apply f is ∷ [], with_known (enters t t.known)))) (all_found t.entries ks js all)
-told_is_written g agents pending s t step shows count acts more next later tables (IsWritten.knows k e x known number) counts flag =
-    ap (option_map {U = List PStep × Tables} (λ (i : ℕ). (pending_lines t.pending, waiting (come t (0 ∷ [])) (Some i)))) number
+told_is_written g agents pending s t step shows count acts more next later tables (IsWrittenAsProcess.makes n) counts flag = refl
+told_is_written g agents pending s t step shows count acts more next later tables (IsWrittenAsProcess.learns k e number) counts flag = ap (option_map {U = List PStep × ProcessTables} (λ (i : ℕ). ([], enters t i))) number
+told_is_written g agents pending s t step shows count acts more next later tables (IsWrittenAsProcess.owns k n made number) counts flag = ap (option_map {U = List PStep × ProcessTables} (λ (i : ℕ). (line.Name i ∷ [], with_known (enters t t.known)))) number
+told_is_written g agents pending s t step shows count acts more next later tables (IsWrittenAsProcess.writes a) counts flag = refl
+told_is_written g agents pending s t step shows count acts more next later tables (IsWrittenAsProcess.applies f ks js all) counts flag =
+    ap (option_map {U = List PStep × ProcessTables} (λ (is : List ℕ). (line.Apply f is ∷ [], with_known (enters t t.known)))) (all_found t.entries ks js all)
+told_is_written g agents pending s t step shows count acts more next later tables (IsWrittenAsProcess.knows k e x known number) counts flag =
+    ap (option_map {U = List PStep × ProcessTables} (λ (i : ℕ). (pending_lines t.pending, waiting (come t (0 ∷ [])) (Some i)))) number
 
 -- what is given of what is told
-given : (o : Option (List PStep × Tables)) (behind tables : Tables) (before after more : List PStep) → o ≡ Some (more, tables) → Gives o behind before after → (after ≡ before ++ more) × (behind ≡ tables)
-given o behind tables before after more e = subst (λ (p : Option (List PStep × Tables)). Gives p behind before after) e
+given : (o : Option (List PStep × ProcessTables)) (behind tables : ProcessTables) (before after more : List PStep) → o ≡ Some (more, tables) → GivesTold o behind before after → (after ≡ before ++ more) × (behind ≡ tables)
+given o behind tables before after more e = subst (λ (p : Option (List PStep × ProcessTables)). GivesTold p behind before after) e
 
 -- what gives what is told writes what is written
-pub gives_writes : (t behind : Tables) (step : RStep) (shows : Bool) (count : ℕ) (before after : List PStep) → Gives (told t step shows count) behind before after → Writes t behind step shows count before after
+pub gives_writes : (t behind : ProcessTables) (step : RStep) (shows : Bool) (count : ℕ) (before after : List PStep) → GivesTold (told t step shows count) behind before after → WritesProcess t behind step shows count before after
 gives_writes t behind step shows count before after h =
     λ g agents pending s acts more next later tables w counts flag. given (told t step shows count) behind tables before after more (told_is_written g agents pending s t step shows count acts more next later tables w counts flag) h

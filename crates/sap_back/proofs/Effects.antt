@@ -16,14 +16,14 @@ use Rattle.sap_rule.specs.RuleSteps as state
 use Rattle.sap_rule.specs.RuleSteps.{RuleState, leaves, gains}
 use Rattle.sap_runs.specs.declared.process_step.PStep.{PStep}
 use Rattle.sap_runs.specs.declared.rule_step.RStep.{RStep}
-use Rattle.sap_translate.specs.ChannelFacts.{msg_fact, ack_fact}
+use Rattle.sap_templates.specs.ChannelFacts.{msg_fact, ack_fact}
 use Rattle.sap_translate.specs.Scoped.{AreUnreserved}
 use Rattle.sap_translate.specs.relation.Agents.{Agent}
 use Rattle.sap_translate.specs.relation.Answers.{at_first, at_second, widened}
 use Rattle.sap_translate.specs.relation.Envs.{just, join, values}
 use Rattle.sap_back.specs.Along.{IsAlong}
-use Rattle.sap_back.specs.Followed.{IsWritten}
-use Rattle.sap_back.specs.Tables.{Tables}
+use Rattle.sap_back.specs.Followed.{IsWrittenAsProcess}
+use Rattle.sap_process_lines.specs.Tables.{ProcessTables}
 use Rattle.sap_back.proofs.Lines.{Grows}
 
 -- the state trades the facts with these numbers, which are these, for others
@@ -61,50 +61,50 @@ pub record Embeds (s z : RuleState) (c : Config) (es : List Tree) (d : Config) (
 
 -- what the line does, by the case of what is written for it: the state of rules before and behind, the configuration and the
 -- entries before and behind
-abbrev pub Effect : {g : Sig} {agents : List (Option Agent)} {pending : Option Tree} {s : RuleState} {tables : Tables} {step : RStep} {acts : List Fact} {more : List PStep} {next : List (Option Agent)} {later : Option Tree} {behind : Tables}
-    → IsWritten g agents pending s tables step acts more next later behind → RuleState → Config → List Tree → Config → List Tree → Type 0
-Effect {s = s} (IsWritten.starts t body b e z0) z c es d fs = Trades s z [] [] (state_fact [] [] ∷ []) × Keeps c es d fs
-Effect {s = s} (IsWritten.ends t k path env b h) z c es d fs = Trades s z (k ∷ []) (state_fact path (values env) ∷ []) [] × Keeps c es d fs
-Effect {s = s} (IsWritten.splits t k path env b p q h) z c es d fs = Trades s z (k ∷ []) (state_fact path (values env) ∷ []) (at_first path env ∷ at_second path env ∷ []) × Keeps c es d fs
-Effect {s = s} (IsWritten.starts_copies t k path env b p h) z c es d fs = Trades s z (k ∷ []) (state_fact path (values env) ∷ []) (copies_fact path (values env) ∷ []) × Keeps c es d fs
-Effect {s = s} (IsWritten.copies t k path env b p h n) z c es d fs = Trades s z (k ∷ []) (copies_fact path (values env) ∷ []) (at_first path env ∷ []) × Keeps c es d fs
-Effect {s = s} (IsWritten.makes_name t k j n path env b x p h f m) z c es d fs =
+abbrev pub Effect : {g : Sig} {agents : List (Option Agent)} {pending : Option Tree} {s : RuleState} {tables : ProcessTables} {step : RStep} {acts : List Fact} {more : List PStep} {next : List (Option Agent)} {later : Option Tree} {behind : ProcessTables}
+    → IsWrittenAsProcess g agents pending s tables step acts more next later behind → RuleState → Config → List Tree → Config → List Tree → Type 0
+Effect {s = s} (IsWrittenAsProcess.starts t body b e z0) z c es d fs = Trades s z [] [] (state_fact [] [] ∷ []) × Keeps c es d fs
+Effect {s = s} (IsWrittenAsProcess.ends t k path env b h) z c es d fs = Trades s z (k ∷ []) (state_fact path (values env) ∷ []) [] × Keeps c es d fs
+Effect {s = s} (IsWrittenAsProcess.splits t k path env b p q h) z c es d fs = Trades s z (k ∷ []) (state_fact path (values env) ∷ []) (at_first path env ∷ at_second path env ∷ []) × Keeps c es d fs
+Effect {s = s} (IsWrittenAsProcess.starts_copies t k path env b p h) z c es d fs = Trades s z (k ∷ []) (state_fact path (values env) ∷ []) (copies_fact path (values env) ∷ []) × Keeps c es d fs
+Effect {s = s} (IsWrittenAsProcess.copies t k path env b p h n) z c es d fs = Trades s z (k ∷ []) (copies_fact path (values env) ∷ []) (at_first path env ∷ []) × Keeps c es d fs
+Effect {s = s} (IsWrittenAsProcess.makes_name t k j n path env b x p h f m) z c es d fs =
     Trades s z (k ∷ j ∷ []) (state_fact path (values env) ∷ fr_fact n ∷ []) (at_first path (join env (just (fresh_var x) (fresh n))) ∷ []) × Keeps c es d fs
-Effect {s = s} (IsWritten.outputs t k path env b m p h) z c es d fs = (x : Tree) × Trades s z (k ∷ []) (state_fact path (values env) ∷ []) (out_fact x ∷ at_first path env ∷ []) × Gets c es d fs x
-Effect {s = s} (IsWritten.outputs_on t k j e path env b m n p h w) z c es d fs = (x : Tree) × TradesTwo s z k j (state_fact path (values env)) (out_fact x ∷ at_first path env ∷ []) × Gets c es d fs x
-Effect {s = s} (IsWritten.sends t k j i path env b m n x v p h f o) z c es d fs =
+Effect {s = s} (IsWrittenAsProcess.outputs t k path env b m p h) z c es d fs = (x : Tree) × Trades s z (k ∷ []) (state_fact path (values env) ∷ []) (out_fact x ∷ at_first path env ∷ []) × Gets c es d fs x
+Effect {s = s} (IsWrittenAsProcess.outputs_on t k j e path env b m n p h w) z c es d fs = (x : Tree) × TradesTwo s z k j (state_fact path (values env)) (out_fact x ∷ at_first path env ∷ []) × Gets c es d fs x
+Effect {s = s} (IsWrittenAsProcess.sends t k j i path env b m n x v p h f o) z c es d fs =
     TradesTwo s z k j (state_fact path (values env)) (msg_fact (fresh i) x v ∷ waits_fact path (values env ++ fresh i ∷ []) ∷ []) × Keeps c es d fs
-Effect {s = s} {tables = tables} (IsWritten.goes_on t k j n path env b m u p h f o) z c es d fs =
+Effect {s = s} {tables = tables} (IsWrittenAsProcess.goes_on t k j n path env b m u p h f o) z c es d fs =
     Trades s z (k ∷ j ∷ []) (waits_fact path (values env ++ fresh n ∷ []) ∷ ack_fact (fresh n) ∷ []) (at_first path env ∷ []) × (slice_get tables.facts j ≡ Some t) × Keeps c es d fs
-Effect {s = s} (IsWritten.inputs t k j e path env b m σ p h w) z c es d fs = TradesTwo s z k j (state_fact path (values env)) (at_first path (widened env σ (tree_vars m)) ∷ []) × Keeps c es d fs
-Effect {s = s} (IsWritten.inputs_on t k j e path env b m n σ p h w) z c es d fs = TradesTwo s z k j (state_fact path (values env)) (at_first path (widened env σ (tree_vars n)) ∷ []) × Keeps c es d fs
-Effect {s = s} (IsWritten.meets a t k j n at path other env b m u x v l r σ p q h f o w) z c es d fs =
+Effect {s = s} (IsWrittenAsProcess.inputs t k j e path env b m σ p h w) z c es d fs = TradesTwo s z k j (state_fact path (values env)) (at_first path (widened env σ (tree_vars m)) ∷ []) × Keeps c es d fs
+Effect {s = s} (IsWrittenAsProcess.inputs_on t k j e path env b m n σ p h w) z c es d fs = TradesTwo s z k j (state_fact path (values env)) (at_first path (widened env σ (tree_vars n)) ∷ []) × Keeps c es d fs
+Effect {s = s} (IsWrittenAsProcess.meets a t k j n at path other env b m u x v l r σ p q h f o w) z c es d fs =
     Trades s z (k ∷ j ∷ []) (state_fact path (values env) ∷ msg_fact (fresh n) x v ∷ []) (ack_fact (fresh n) ∷ at_first path (widened env σ (tree_vars r)) ∷ []) × Keeps c es d fs
-Effect {s = s} (IsWritten.shows t k path env b f p h) z c es d fs = Trades s z (k ∷ []) (state_fact path (values env) ∷ []) (at_first path env ∷ []) × Keeps c es d fs
-Effect {s = s} (IsWritten.inserts t k path env b m n p h) z c es d fs = Trades s z (k ∷ []) (state_fact path (values env) ∷ []) (at_first path env ∷ []) × Keeps c es d fs
-Effect {s = s} (IsWritten.deletes t k path env b m p h) z c es d fs = Trades s z (k ∷ []) (state_fact path (values env) ∷ []) (at_first path env ∷ []) × Keeps c es d fs
-Effect {s = s} (IsWritten.locks t k j n path env b m l p h) z c es d fs = TradesTwo s z k j (state_fact path (values env)) (at_first path (join env (just (lock_var l) (fresh n))) ∷ []) × Keeps c es d fs
-Effect {s = s} (IsWritten.unlocks t k path env b m l p h) z c es d fs = Trades s z (k ∷ []) (state_fact path (values env) ∷ []) (at_first path env ∷ []) × Keeps c es d fs
-Effect {s = s} (IsWritten.agrees t k path env b m n p q h) z c es d fs = Trades s z (k ∷ []) (state_fact path (values env) ∷ []) (at_first path env ∷ []) × Keeps c es d fs
-Effect {s = s} (IsWritten.differs t k path env b m n p q h) z c es d fs = Trades s z (k ∷ []) (state_fact path (values env) ∷ []) (at_second path env ∷ []) × Keeps c es d fs
-Effect {s = s} (IsWritten.finds t k path env b m v y p q h) z c es d fs = Trades s z (k ∷ []) (state_fact path (values env) ∷ []) (at_first path (join env (just (message_var y) v)) ∷ []) × Keeps c es d fs
-Effect {s = s} (IsWritten.misses t k path env b m y p q h) z c es d fs = Trades s z (k ∷ []) (state_fact path (values env) ∷ []) (at_second path env ∷ []) × Keeps c es d fs
-Effect {s = s} (IsWritten.embeds t k js ks path env b l a o σ p h e) z c es d fs = Embeds s z c es d fs k js ks (state_fact path (values env)) (at_first path (widened env σ (facts_vars (l ++ (a ++ o))))) o
-Effect {s = s} (IsWritten.makes n) z c es d fs = (z ≡ state.makes s n) × Keeps c es d fs
-Effect {s = s} (IsWritten.learns k e f) z c es d fs = (x : Tree) × (rest : Pile) × Takes s.facts (k ∷ []) (out_fact x ∷ []) rest × (z ≡ gains (leaves s rest) x) × Keeps c es d fs
-Effect {s = s} (IsWritten.owns k n f e) z c es d fs = (rest : Pile) × Takes s.facts (k ∷ []) (fr_fact n ∷ []) rest × (z ≡ gains (leaves s rest) (fresh n)) × Gets c es d fs (fresh n)
-Effect {s = s} (IsWritten.writes a) z c es d fs = (z ≡ gains s (public a)) × Gets c es d fs (public a)
-Effect {s = s} (IsWritten.applies f ks js e) z c es d fs = (x : Tree) × (z ≡ gains s x) × Gets c es d fs x
-Effect {s = s} (IsWritten.knows k e x f h) z c es d fs = (z ≡ leaves s (adds s.facts (in_fact x ∷ []))) × Keeps c es d fs
+Effect {s = s} (IsWrittenAsProcess.shows t k path env b f p h) z c es d fs = Trades s z (k ∷ []) (state_fact path (values env) ∷ []) (at_first path env ∷ []) × Keeps c es d fs
+Effect {s = s} (IsWrittenAsProcess.inserts t k path env b m n p h) z c es d fs = Trades s z (k ∷ []) (state_fact path (values env) ∷ []) (at_first path env ∷ []) × Keeps c es d fs
+Effect {s = s} (IsWrittenAsProcess.deletes t k path env b m p h) z c es d fs = Trades s z (k ∷ []) (state_fact path (values env) ∷ []) (at_first path env ∷ []) × Keeps c es d fs
+Effect {s = s} (IsWrittenAsProcess.locks t k j n path env b m l p h) z c es d fs = TradesTwo s z k j (state_fact path (values env)) (at_first path (join env (just (lock_var l) (fresh n))) ∷ []) × Keeps c es d fs
+Effect {s = s} (IsWrittenAsProcess.unlocks t k path env b m l p h) z c es d fs = Trades s z (k ∷ []) (state_fact path (values env) ∷ []) (at_first path env ∷ []) × Keeps c es d fs
+Effect {s = s} (IsWrittenAsProcess.agrees t k path env b m n p q h) z c es d fs = Trades s z (k ∷ []) (state_fact path (values env) ∷ []) (at_first path env ∷ []) × Keeps c es d fs
+Effect {s = s} (IsWrittenAsProcess.differs t k path env b m n p q h) z c es d fs = Trades s z (k ∷ []) (state_fact path (values env) ∷ []) (at_second path env ∷ []) × Keeps c es d fs
+Effect {s = s} (IsWrittenAsProcess.finds t k path env b m v y p q h) z c es d fs = Trades s z (k ∷ []) (state_fact path (values env) ∷ []) (at_first path (join env (just (message_var y) v)) ∷ []) × Keeps c es d fs
+Effect {s = s} (IsWrittenAsProcess.misses t k path env b m y p q h) z c es d fs = Trades s z (k ∷ []) (state_fact path (values env) ∷ []) (at_second path env ∷ []) × Keeps c es d fs
+Effect {s = s} (IsWrittenAsProcess.embeds t k js ks path env b l a o σ p h e) z c es d fs = Embeds s z c es d fs k js ks (state_fact path (values env)) (at_first path (widened env σ (facts_vars (l ++ (a ++ o))))) o
+Effect {s = s} (IsWrittenAsProcess.makes n) z c es d fs = (z ≡ state.makes s n) × Keeps c es d fs
+Effect {s = s} (IsWrittenAsProcess.learns k e f) z c es d fs = (x : Tree) × (rest : Pile) × Takes s.facts (k ∷ []) (out_fact x ∷ []) rest × (z ≡ gains (leaves s rest) x) × Keeps c es d fs
+Effect {s = s} (IsWrittenAsProcess.owns k n f e) z c es d fs = (rest : Pile) × Takes s.facts (k ∷ []) (fr_fact n ∷ []) rest × (z ≡ gains (leaves s rest) (fresh n)) × Gets c es d fs (fresh n)
+Effect {s = s} (IsWrittenAsProcess.writes a) z c es d fs = (z ≡ gains s (public a)) × Gets c es d fs (public a)
+Effect {s = s} (IsWrittenAsProcess.applies f ks js e) z c es d fs = (x : Tree) × (z ≡ gains s x) × Gets c es d fs x
+Effect {s = s} (IsWrittenAsProcess.knows k e x f h) z c es d fs = (z ≡ leaves s (adds s.facts (in_fact x ∷ []))) × Keeps c es d fs
 
 -- All that the law of single lines says, but that the tables behind are right: the lines of the process that are written for a
 -- line of rules, and what they do.
-pub record IsContinued (g : Sig) (W : Tree → Type 0) (start : Proc) (agents : List (Option Agent)) (pending : Option Tree) (lines : List PStep) (c : Config) (es : List Tree) (s : RuleState) (full : Trace) (tables : Tables) (step : RStep) (z : RuleState) (acts : List Fact) : Type 0 where
+pub record IsContinued (g : Sig) (W : Tree → Type 0) (start : Proc) (agents : List (Option Agent)) (pending : Option Tree) (lines : List PStep) (c : Config) (es : List Tree) (s : RuleState) (full : Trace) (tables : ProcessTables) (step : RStep) (z : RuleState) (acts : List Fact) : Type 0 where
   pub more : List PStep
   pub next : List (Option Agent)
   pub later : Option Tree
-  pub behind : Tables
-  pub written : IsWritten g agents pending s tables step acts more next later behind
+  pub behind : ProcessTables
+  pub written : IsWrittenAsProcess g agents pending s tables step acts more next later behind
   pub config : Config
   pub entries : List Tree
   pub trace : Trace

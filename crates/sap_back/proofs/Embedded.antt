@@ -33,28 +33,29 @@ use Rattle.sap_steps.specs.Marks.{marks}
 use Rattle.sap_translate.specs.Members.{Member}
 use Rattle.sap_translate.specs.Opened.{left_open}
 use Rattle.sap_translate.specs.Scoped.{AreUnreserved}
-use Rattle.sap_translate.specs.Templates as rules
-use Rattle.sap_translate.specs.Templates.{embedded_acts, first_of, state}
+use Rattle.sap_templates.specs.Templates as rules
+use Rattle.sap_templates.specs.Templates.{embedded_acts, first_of, state}
 use Rattle.sap_translate.specs.relation.Agents.{Agent, running}
 use Rattle.sap_translate.specs.relation.Answers.{under, goes_on, widened}
 use Rattle.sap_translate.specs.relation.Envs.{Env, GoodEnv, names, values, chosen, filled}
 use Rattle.sap_translate.specs.relation.Followed.{IsUsed}
 use Rattle.sap_translate.specs.relation.ProcessMoves as process
 use Rattle.sap_back.specs.Along.{IsAlong}
-use Rattle.sap_back.specs.Followed.{IsWritten, pending_lines, with_pile}
-use Rattle.sap_back.specs.Tables.{Tables, AreTables, waiting}
+use Rattle.sap_back.specs.Followed.{IsWrittenAsProcess, pending_lines}
+use Rattle.sap_process_lines.specs.Tables.{with_pile, ProcessTables, waiting}
+use Rattle.sap_back.specs.Tables.{AreProcessTables}
 use Rattle.sap_runs.specs.declared.process_step.PStep.TheVariants as line
-use Rattle.sap_back.proofs.Cases.{law, sound_at, Goes, Case, head_is, on_set, silent, event_written, Writes}
+use Rattle.sap_back.proofs.Cases.{law, sound_at, Goes, Case, head_is, on_set, silent, event_written, WritesProcess}
 use Rattle.sap_back.proofs.Added.{first_form, state_form, wider_by_new, FirstForm}
 use Rattle.sap_back.proofs.Effects.{kept, traded, Embeds}
 use Rattle.sap_back.proofs.Lines.{Does, Grows}
 use Rattle.sap_back.proofs.Piled.{take_there, Corresponds, TakenThere}
-use Rattle.sap_back.proofs.Marked.{embedded_marks}
+use Rattle.sap_translate.proofs.Shared.Marked.{embedded_marks}
 use Rattle.sap_back.proofs.Premises.{Laws}
 use Rattle.sap_back.proofs.Seats.{numbered, seat, was_there, Seat}
 use Rattle.sap_back.proofs.Terms.{contains, SameOn, same_facts, facts_within, rule_fact, rule_term_within}
-use Rattle.sap_back.proofs.owners.Facts.{made}
-use Rattle.sap_back.proofs.owners.Lookups.{member_left, member_right, member_cases, in_left, in_right}
+use Rattle.sap_translate.proofs.Shared.Facts.{made}
+use Rattle.sap_translate.proofs.Shared.Lookups.{member_left, member_right, member_cases, in_left, in_right}
 
 -- facts that are equal to unreserved ones are unreserved
 equal_unreserved : (g : Sig) (σ : Choice) (l fs : List Fact) → AreEqualFacts (equations g) (instance_facts σ l) fs → AreUnreserved l → AreUnreserved fs
@@ -111,7 +112,7 @@ module _ (laws : Laws) (g : Sig) (W : Tree → Type 0) (env : Env) (σ : Choice)
   facts_are : (fs : List Fact) → GoodEnv g env → Rattle.sap_translate.specs.Scoped.FactsWithin (names (widened env σ vs)) fs → instance_facts σ fs ≡ instance_facts σ (instance_facts (chosen env) fs)
   facts_are fs good in_scope = same_facts (names (widened env σ vs)) σ (filled (widened env σ vs)) fs wide_same in_scope ∙ laws.facts g env σ vs fs good in_scope
 
-module _ (laws : Laws) (g : Sig) (W : Tree → Type 0) (p q : Proc) (hold : HoldsBuiltins g) (ready : IsReady g p) (small : node_count p < 2 ^ 64) (annotated : IsAnnotation p q) (agents : List (Option Agent)) (pending : Option Tree) (lines : List PStep) (c : Config) (es : List Tree) (tr : Trace) (s : RuleState) (full : Trace) (w : IsAlong g W q agents pending lines c es tr s full) (tables : Tables) (table : AreTables agents pending c es s tables) where
+module _ (laws : Laws) (g : Sig) (W : Tree → Type 0) (p q : Proc) (hold : HoldsBuiltins g) (ready : IsReady g p) (small : node_count p < 2 ^ 64) (annotated : IsAnnotation p q) (agents : List (Option Agent)) (pending : Option Tree) (lines : List PStep) (c : Config) (es : List Tree) (tr : Trace) (s : RuleState) (full : Trace) (w : IsAlong g W q agents pending lines c es tr s full) (tables : ProcessTables) (table : AreProcessTables agents pending c es s tables) where
   pub rule_case : (path : List ℕ) (v : List Var) (l a o : List Fact) (u : Proc) → Case laws g W p q hold ready small annotated agents pending lines c es tr s full w tables table path v (act (action.embedded l a o) u) (rules.embedded_rule path v l a o)
   rule_case path v l a o u at ks b σ left acts right rest fired = go shown.shows shown.is shown.forms
     where
@@ -213,17 +214,17 @@ module _ (laws : Laws) (g : Sig) (W : Tree → Type 0) (p q : Proc) (hold : Hold
       none_of [] h = refl
       none_of (f ∷ fs) h = absurd h
 
-      behind : Option ℕ → Tables
+      behind : Option ℕ → ProcessTables
       behind k = waiting (with_pile tables st.thread (length o)) k
 
       -- the line that is written, behind what is pending where something is shown
-      quiet : acts ≡ [] → Writes laws g W p q hold ready small annotated agents pending lines c es tr s full w tables table name (st.number ∷ st.others) b acts (line.Embedded st.thread taken.js b ∷ []) next pending (behind tables.pending) d rest right
-      quiet is = subst (λ z. Writes laws g W p q hold ready small annotated agents pending lines c es tr s full w tables table name (st.number ∷ st.others) b z (line.Embedded st.thread taken.js b ∷ []) next pending (behind tables.pending) d rest right) (sym is)
-          (IsWritten.embeds st.thread st.number st.others taken.js path st.env b l a o σ u st.seated taken.are, embedded_so)
+      quiet : acts ≡ [] → WritesProcess laws g W p q hold ready small annotated agents pending lines c es tr s full w tables table name (st.number ∷ st.others) b acts (line.Embedded st.thread taken.js b ∷ []) next pending (behind tables.pending) d rest right
+      quiet is = subst (λ z. WritesProcess laws g W p q hold ready small annotated agents pending lines c es tr s full w tables table name (st.number ∷ st.others) b z (line.Embedded st.thread taken.js b ∷ []) next pending (behind tables.pending) d rest right) (sym is)
+          (IsWrittenAsProcess.embeds st.thread st.number st.others taken.js path st.env b l a o σ u st.seated taken.are, embedded_so)
 
-      loud : (h : Fact) (hs : List Fact) → acts ≡ event_fact ∷ h ∷ hs → Writes laws g W p q hold ready small annotated agents pending lines c es tr s full w tables table name (st.number ∷ st.others) b acts (pending_lines tables.pending ++ line.Embedded st.thread taken.js b ∷ []) next None (behind None) d rest right
-      loud h hs is = subst (λ z. Writes laws g W p q hold ready small annotated agents pending lines c es tr s full w tables table name (st.number ∷ st.others) b z (pending_lines tables.pending ++ line.Embedded st.thread taken.js b ∷ []) next None (behind None) d rest right) (sym is)
-          (IsWritten.embeds st.thread st.number st.others taken.js path st.env b l a o σ u st.seated taken.are, embedded_so)
+      loud : (h : Fact) (hs : List Fact) → acts ≡ event_fact ∷ h ∷ hs → WritesProcess laws g W p q hold ready small annotated agents pending lines c es tr s full w tables table name (st.number ∷ st.others) b acts (pending_lines tables.pending ++ line.Embedded st.thread taken.js b ∷ []) next None (behind None) d rest right
+      loud h hs is = subst (λ z. WritesProcess laws g W p q hold ready small annotated agents pending lines c es tr s full w tables table name (st.number ∷ st.others) b z (pending_lines tables.pending ++ line.Embedded st.thread taken.js b ∷ []) next None (behind None) d rest right) (sym is)
+          (IsWrittenAsProcess.embeds st.thread st.number st.others taken.js path st.env b l a o σ u st.seated taken.are, embedded_so)
 
       go : (shows : List Fact) → acts ≡ embedded_acts shows → AreFormsOfFacts (equations g) (instance_facts σ a) shows → Goes laws g W p q hold ready small annotated agents pending lines c es tr s full w tables table name ks b rest acts right
       go [] is forms =

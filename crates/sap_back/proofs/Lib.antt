@@ -1,4 +1,4 @@
-pub mod owners
+pub mod Takings
 pub mod Named
 pub mod Lines
 pub mod Effects
@@ -13,7 +13,6 @@ pub mod Terms
 pub mod Added
 pub mod Seats
 pub mod Piled
-pub mod Marked
 pub mod Cases
 pub mod Meets
 pub mod Acknowledged
@@ -30,5 +29,4 @@ pub mod LinesTried
 pub mod Converting
 pub mod SomeRun
 pub mod OneRun
-pub mod NumberLists
 pub mod DeskLines

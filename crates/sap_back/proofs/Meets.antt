@@ -33,30 +33,31 @@ use Rattle.sap_runs.specs.Inner.{locked}
 use Rattle.sap_runs.specs.declared.process_step.PStep.{PStep}
 use Rattle.sap_lines.specs.Lines.{EvaluateWithin}
 use Rattle.sap_steps.specs.Marks.{marks}
-use Rattle.sap_translate.specs.ChannelFacts.{fresh_fact, msg_fact}
+use Rattle.sap_templates.specs.ChannelFacts.{fresh_fact, msg_fact}
 use Rattle.sap_translate.specs.Members.{Member}
-use Rattle.sap_translate.specs.Places.{root, scoped_place_at}
+use Rattle.sap_templates.specs.Places.{root, scoped_place_at}
 use Rattle.sap_translate.specs.Scoped.{Within}
-use Rattle.sap_translate.specs.Templates as rules
-use Rattle.sap_translate.specs.Templates.{first_of, state}
+use Rattle.sap_templates.specs.Templates as rules
+use Rattle.sap_templates.specs.Templates.{first_of, state}
 use Rattle.sap_translate.specs.relation.Agents.{Agent, running, awaiting, received, process_of}
 use Rattle.sap_translate.specs.relation.Answers.{term_under, under, goes_on, widened}
 use Rattle.sap_translate.specs.relation.Envs.{Env, names, just, join, values}
 use Rattle.sap_translate.specs.relation.ProcessMoves as process
 use Rattle.sap_translate.specs.relation.Shown.{ShowsAt}
 use Rattle.sap_back.specs.Along.{IsAlong, SentWithin}
-use Rattle.sap_back.specs.Followed.{IsWritten}
-use Rattle.sap_back.specs.Tables.{Tables, AreTables, come, with_known, waiting}
+use Rattle.sap_back.specs.Followed.{IsWrittenAsProcess}
+use Rattle.sap_process_lines.specs.Tables.{ProcessTables, come, with_known, waiting}
+use Rattle.sap_back.specs.Tables.{AreProcessTables}
 use Rattle.sap_back.proofs.Added.{ack_then_state, message_waits, one_state, out_then_state, wider_by_new, wider_by_one}
 use Rattle.sap_back.proofs.Cases.{entry_waits, trades_two, law, sound_at, Case, head_is, on_set, silent, none_written, input_written, form_is, one_within, two_within, only_running}
 use Rattle.sap_back.proofs.Premises.{Laws}
 use Rattle.sap_back.proofs.Effects.{got, kept, traded}
 use Rattle.sap_back.proofs.Seats.{numbered, own, term_is, Fired, Beside, beside, agent_runs, runs_one, head_of, none_left, equal_none, was_there}
 use Rattle.sap_back.proofs.Terms.{SameOn, normal_same, rule_fact, within_join, rule_term_within, two_forms_of, one_form_of, no_acts, a_name}
-use Rattle.sap_back.proofs.owners.Facts.{made}
-use Rattle.sap_back.proofs.owners.Inputs.{served_free}
-use Rattle.sap_back.proofs.owners.Lookups.{every-set}
-use Rattle.sap_back.proofs.owners.Standing.{msg_owner}
+use Rattle.sap_translate.proofs.Shared.Facts.{made}
+use Rattle.sap_translate.proofs.Shared.Inputs.{served_free}
+use Rattle.sap_translate.proofs.Shared.Lookups.{every-set}
+use Rattle.sap_translate.proofs.Shared.Standing.{msg_owner}
 
 -- what a meeting evaluates, by what both threads run
 abbrev MeetsWithin : Sig → (Tree → Type 0) → Proc → Proc → Type 0
@@ -95,7 +96,7 @@ one_arg g t f h = by f.args refl h.args
     by (x ∷ []) e k = record { value = x; is = made f.name (fresh_fact t).name f.persistent false f.args (x ∷ []) h.name h.persistent e; equal = k.0 }
     by (x ∷ y ∷ ts) e k = absurd k.1
 
-module _ (laws : Laws) (g : Sig) (W : Tree → Type 0) (p q : Proc) (hold : HoldsBuiltins g) (ready : IsReady g p) (small : node_count p < 2 ^ 64) (annotated : IsAnnotation p q) (agents : List (Option Agent)) (pending : Option Tree) (lines : List PStep) (c : Config) (es : List Tree) (tr : Trace) (s : RuleState) (full : Trace) (w : IsAlong g W q agents pending lines c es tr s full) (tables : Tables) (table : AreTables agents pending c es s tables) where
+module _ (laws : Laws) (g : Sig) (W : Tree → Type 0) (p q : Proc) (hold : HoldsBuiltins g) (ready : IsReady g p) (small : node_count p < 2 ^ 64) (annotated : IsAnnotation p q) (agents : List (Option Agent)) (pending : Option Tree) (lines : List PStep) (c : Config) (es : List Tree) (tr : Trace) (s : RuleState) (full : Trace) (w : IsAlong g W q agents pending lines c es tr s full) (tables : ProcessTables) (table : AreProcessTables agents pending c es s tables) where
   -- the laws of the other file, here
   abbrev Here : List ℕ → List Var → Proc → Rule → Type 0
   Here path v body r = Case laws g W p q hold ready small annotated agents pending lines c es tr s full w tables table path v body r
@@ -134,7 +135,7 @@ module _ (laws : Laws) (g : Sig) (W : Tree → Type 0) (p q : Proc) (hold : Hold
       let number_is : slice_get tables.facts st.other ≡ Some n.0 = number.1 ∙ ap (λ z. Some z) (same_names number.0 n.0 (sym (table.made st.other number.0 name.value at_name number.1) ∙ value_is)) in
       let wider = join st.env (just (fresh_var x) (fresh n.0)) in
       let f = law laws g W p q hold ready small annotated agents pending lines c es tr s full w tables table _ laws.follows_new st.thread st.number st.other n.0 path st.env x u σ left acts right rest st.seated.stands st.used n.1 in
-      silent laws g W p q hold ready small annotated agents pending lines c es tr s full w tables table (rules.new_rule path v x).name ks (st.number ∷ st.other ∷ []) b st.numbers (goes_on agents st.thread path wider u) (come tables (st.thread ∷ [])) rest acts right (process.makes_name st.thread n.0) [] (config.makes (becomes c st.thread (Some (under wider u))) n.0) (IsWritten.makes_name st.thread st.number st.other n.0 path st.env b x u st.seated live number_is, λ fs i. (traded st.used.takes (st.lefts ∙ ap (λ z. state_fact path (values st.env) ∷ z ∷ []) (name.is ∙ ap fresh_fact value_is)) (one_state laws g σ st.used.fits.messages (first_of path) wider right (wider_by_one laws st.env σ (fresh_var x) (fresh n.0) st.same sound n.1) st.used.fits.adds), kept refl refl i)) f
+      silent laws g W p q hold ready small annotated agents pending lines c es tr s full w tables table (rules.new_rule path v x).name ks (st.number ∷ st.other ∷ []) b st.numbers (goes_on agents st.thread path wider u) (come tables (st.thread ∷ [])) rest acts right (process.makes_name st.thread n.0) [] (config.makes (becomes c st.thread (Some (under wider u))) n.0) (IsWrittenAsProcess.makes_name st.thread st.number st.other n.0 path st.env b x u st.seated live number_is, λ fs i. (traded st.used.takes (st.lefts ∙ ap (λ z. state_fact path (values st.env) ∷ z ∷ []) (name.is ∙ ap fresh_fact value_is)) (one_state laws g σ st.used.fits.messages (first_of path) wider right (wider_by_one laws st.env σ (fresh_var x) (fresh n.0) st.same sound n.1) st.used.fits.adds), kept refl refl i)) f
       (head_is laws g W p q hold ready small annotated agents pending lines c es tr s full w tables table b st.thread (running path st.env body) st.seated.stands.thread (process.makes_name st.thread n.0) [] refl)
       (ap (λ a. marks (a ∷ [])) (no_acts (equations g) acts st.used.fits.shows)) (on_set laws g W p q hold ready small annotated agents pending lines c es tr s full w tables table st.thread (first_of path) wider u)
 
@@ -150,7 +151,7 @@ module _ (laws : Laws) (g : Sig) (W : Tree → Type 0) (p q : Proc) (hold : Hold
       let n = a_name g (σ (lock_var l)) (st.used.fits.messages (lock_var l)) in
       let wider = join st.env (just (lock_var l) (fresh n.0)) in
       let f = law laws g W p q hold ready small annotated agents pending lines c es tr s full w tables table _ laws.follows_lock st.thread st.number st.other n.0 path st.env m k.second l u σ left acts right rest st.seated.stands st.used fx n.1 in
-      silent laws g W p q hold ready small annotated agents pending lines c es tr s full w tables table (rules.lock_rule path v m l).name ks (st.number ∷ st.other ∷ []) b st.numbers (goes_on agents st.thread path wider u) (come tables (st.thread ∷ [])) rest acts right (process.locks st.thread) (locked k.second ∷ []) (holding (becomes c st.thread (Some (under st.env u))) k.second true) (IsWritten.locks st.thread st.number st.other n.0 path st.env b m l u st.seated, λ fs i. (trades_two laws g W p q hold ready small annotated agents pending lines c es tr s full w tables table st (one_state laws g σ st.used.fits.messages (first_of path) wider right (wider_by_one laws st.env σ (lock_var l) (fresh n.0) st.same sound.1 n.1) st.used.fits.adds), kept refl refl i)) f
+      silent laws g W p q hold ready small annotated agents pending lines c es tr s full w tables table (rules.lock_rule path v m l).name ks (st.number ∷ st.other ∷ []) b st.numbers (goes_on agents st.thread path wider u) (come tables (st.thread ∷ [])) rest acts right (process.locks st.thread) (locked k.second ∷ []) (holding (becomes c st.thread (Some (under st.env u))) k.second true) (IsWrittenAsProcess.locks st.thread st.number st.other n.0 path st.env b m l u st.seated, λ fs i. (trades_two laws g W p q hold ready small annotated agents pending lines c es tr s full w tables table st (one_state laws g σ st.used.fits.messages (first_of path) wider right (wider_by_one laws st.env σ (lock_var l) (fresh n.0) st.same sound.1 n.1) st.used.fits.adds), kept refl refl i)) f
       (head_is laws g W p q hold ready small annotated agents pending lines c es tr s full w tables table b st.thread (running path st.env body) st.seated.stands.thread (process.locks st.thread) (locked k.second ∷ [])
       (k.second, fx, one_within laws g W p q hold ready small annotated agents pending lines c es tr s full w tables table st.env σ (rules.lock_rule path (names st.env) m l) (lock_fact lock m) m st.same in_scope st.within (Member.later (Member.later Member.here)) (Member.later Member.here), refl))
       (ap (λ a. marks (a ∷ [])) k.is) (on_set laws g W p q hold ready small annotated agents pending lines c es tr s full w tables table st.thread (first_of path) wider u)
@@ -164,7 +165,7 @@ module _ (laws : Laws) (g : Sig) (W : Tree → Type 0) (p q : Proc) (hold : Hold
       let entry = entry_waits laws g W p q hold ready small annotated agents pending lines c es tr s full w tables table k.form waits in
       let wider = widened st.env σ (tree_vars m) in
       let f = law laws g W p q hold ready small annotated agents pending lines c es tr s full w tables table _ laws.follows_in st.thread st.number st.other path st.env m k.form u σ left acts right rest st.seated.stands st.used k.is_form waits in
-      input_written laws g W p q hold ready small annotated agents pending lines c es tr s full w tables table (rules.in_rule path v m).name ks (st.number ∷ st.other ∷ []) b st.numbers (goes_on agents st.thread path wider u) (waiting (come tables (st.thread ∷ [])) None) rest acts right (process.inputs st.thread σ) k.form entry.0 (becomes c st.thread (Some (under wider u))) entry.2 (IsWritten.inputs st.thread st.number st.other entry.0 path st.env b m σ u st.seated entry.1, λ fs i. (trades_two laws g W p q hold ready small annotated agents pending lines c es tr s full w tables table st (one_state laws g σ st.used.fits.messages (first_of path) wider right (wider_by_new laws st.env σ (tree_vars m) st.same) st.used.fits.adds), kept refl refl i)) f
+      input_written laws g W p q hold ready small annotated agents pending lines c es tr s full w tables table (rules.in_rule path v m).name ks (st.number ∷ st.other ∷ []) b st.numbers (goes_on agents st.thread path wider u) (waiting (come tables (st.thread ∷ [])) None) rest acts right (process.inputs st.thread σ) k.form entry.0 (becomes c st.thread (Some (under wider u))) entry.2 (IsWrittenAsProcess.inputs st.thread st.number st.other entry.0 path st.env b m σ u st.seated entry.1, λ fs i. (trades_two laws g W p q hold ready small annotated agents pending lines c es tr s full w tables table st (one_state laws g σ st.used.fits.messages (first_of path) wider right (wider_by_new laws st.env σ (tree_vars m) st.same) st.used.fits.adds), kept refl refl i)) f
       (head_is laws g W p q hold ready small annotated agents pending lines c es tr s full w tables table b st.thread (running path st.env body) st.seated.stands.thread (process.inputs st.thread σ) [] refl)
       (ap (λ a. marks (a ∷ [])) k.is) (on_set laws g W p q hold ready small annotated agents pending lines c es tr s full w tables table st.thread (first_of path) wider u)
 
@@ -182,7 +183,7 @@ module _ (laws : Laws) (g : Sig) (W : Tree → Type 0) (p q : Proc) (hold : Hold
       let both = rule_term_within g W σ rule pair st.within (rule_fact rule (in_fact pair) pair (Member.later Member.here) Member.here) in
       let channel : EvaluateWithin g W (instance σ l ∷ []) = λ n i. both n (left_part (instance σ l) (instance σ r) i) in
       let f = law laws g W p q hold ready small annotated agents pending lines c es tr s full w tables table _ laws.follows_in_adv st.thread st.number st.other path st.env l r k.form u σ left acts right rest st.seated.stands st.used k.is_form waits in
-      input_written laws g W p q hold ready small annotated agents pending lines c es tr s full w tables table (rules.in_adv_rule path v l r).name ks (st.number ∷ st.other ∷ []) b st.numbers (goes_on agents st.thread path wider u) (waiting (come tables (st.thread ∷ [])) None) rest acts right (process.inputs_on st.thread σ) k.form entry.0 (becomes c st.thread (Some (under wider u))) entry.2 (IsWritten.inputs_on st.thread st.number st.other entry.0 path st.env b l r σ u st.seated entry.1, λ fs i. (trades_two laws g W p q hold ready small annotated agents pending lines c es tr s full w tables table st (one_state laws g σ st.used.fits.messages (first_of path) wider right (wider_by_new laws st.env σ (tree_vars r) st.same) st.used.fits.adds), kept refl refl i)) f
+      input_written laws g W p q hold ready small annotated agents pending lines c es tr s full w tables table (rules.in_adv_rule path v l r).name ks (st.number ∷ st.other ∷ []) b st.numbers (goes_on agents st.thread path wider u) (waiting (come tables (st.thread ∷ [])) None) rest acts right (process.inputs_on st.thread σ) k.form entry.0 (becomes c st.thread (Some (under wider u))) entry.2 (IsWrittenAsProcess.inputs_on st.thread st.number st.other entry.0 path st.env b l r σ u st.seated entry.1, λ fs i. (trades_two laws g W p q hold ready small annotated agents pending lines c es tr s full w tables table st (one_state laws g σ st.used.fits.messages (first_of path) wider right (wider_by_new laws st.env σ (tree_vars r) st.same) st.used.fits.adds), kept refl refl i)) f
       (head_is laws g W p q hold ready small annotated agents pending lines c es tr s full w tables table b st.thread (running path st.env body) st.seated.stands.thread (process.inputs_on st.thread σ) []
       (subst (λ t. EvaluateWithin g W (t ∷ [])) (Rattle.sap_back.proofs.Seats.term_is laws st.env σ l st.same in_scope) channel, refl))
       (ap (λ a. marks (a ∷ [])) k.is) (on_set laws g W p q hold ready small annotated agents pending lines c es tr s full w tables table st.thread (first_of path) wider u)
@@ -204,7 +205,7 @@ module _ (laws : Laws) (g : Sig) (W : Tree → Type 0) (p q : Proc) (hold : Hold
       let fy = form_is laws g W p q hold ready small annotated agents pending lines c es tr s full w tables table st.env σ n sent.0 st.same in_scope.1 sent.1 in
       let rule = rules.out_adv_rule path (names st.env) m n in
       let f = law laws g W p q hold ready small annotated agents pending lines c es tr s full w tables table _ laws.follows_out_adv st.thread st.number st.other path st.env m n k.form sent.0 u σ left acts right rest st.seated.stands st.used fx fy waits in
-      input_written laws g W p q hold ready small annotated agents pending lines c es tr s full w tables table (rules.out_adv_rule path v m n).name ks (st.number ∷ st.other ∷ []) b st.numbers (goes_on agents st.thread path st.env u) (waiting (with_known (come tables (tables.known ∷ st.thread ∷ []))) None) rest acts right (process.outputs_on st.thread) k.form entry.0 (sends_out (becomes c st.thread (Some (under st.env u))) sent.0) entry.2 (IsWritten.outputs_on st.thread st.number st.other entry.0 path st.env b m n u st.seated entry.1, λ fs i. (sent.0, trades_two laws g W p q hold ready small annotated agents pending lines c es tr s full w tables table st sent.2, got sent.0 refl refl i)) f
+      input_written laws g W p q hold ready small annotated agents pending lines c es tr s full w tables table (rules.out_adv_rule path v m n).name ks (st.number ∷ st.other ∷ []) b st.numbers (goes_on agents st.thread path st.env u) (waiting (with_known (come tables (tables.known ∷ st.thread ∷ []))) None) rest acts right (process.outputs_on st.thread) k.form entry.0 (sends_out (becomes c st.thread (Some (under st.env u))) sent.0) entry.2 (IsWrittenAsProcess.outputs_on st.thread st.number st.other entry.0 path st.env b m n u st.seated entry.1, λ fs i. (sent.0, trades_two laws g W p q hold ready small annotated agents pending lines c es tr s full w tables table st sent.2, got sent.0 refl refl i)) f
       (head_is laws g W p q hold ready small annotated agents pending lines c es tr s full w tables table b st.thread (running path st.env body) st.seated.stands.thread (process.outputs_on st.thread) [] (
         within_join g W (term_under st.env m) (term_under st.env n ∷ [])
             (one_within laws g W p q hold ready small annotated agents pending lines c es tr s full w tables table st.env σ rule (in_fact m) m st.same in_scope.0 st.within (Member.later Member.here) Member.here)
@@ -226,7 +227,7 @@ module _ (laws : Laws) (g : Sig) (W : Tree → Type 0) (p q : Proc) (hold : Hold
       let both = two_within laws g W p q hold ready small annotated agents pending lines c es tr s full w tables table st.env σ rule (msg_fact (variable tag) m n) m n st.same in_scope.0 in_scope.1 st.within (Member.later (Member.later Member.here)) (Member.later Member.here) (Member.later (Member.later Member.here)) in
       let f = law laws g W p q hold ready small annotated agents pending lines c es tr s full w tables table _ laws.follows_out_msg st.thread st.number st.other k.0 path st.env m n x.0 y.0 u σ left acts right rest st.seated.stands st.used x.1 y.1 k.1 in
       let waits = awaiting path st.env m n x.0 y.0 u k.0 in
-      none_written laws g W p q hold ready small annotated agents pending lines c es tr s full w tables table (rules.out_msg_rule path v m n).name ks (st.number ∷ st.other ∷ []) b st.numbers (slice_set agents st.thread (Some waits)) (come tables (st.thread ∷ st.thread ∷ [])) rest acts right (IsWritten.sends st.thread st.number st.other k.0 path st.env b m n x.0 y.0 u st.seated x.1 y.1, λ fs i. (trades_two laws g W p q hold ready small annotated agents pending lines c es tr s full w tables table st (message_waits laws g σ st.used.fits.messages m n (fresh k.0) x.0 y.0 path st.env right k.1 (instance_form st.env σ m x.0 st.same in_scope.0 x.1) (instance_form st.env σ n y.0 st.same in_scope.1 y.1) st.same st.used.fits.adds), kept refl refl i)) f
+      none_written laws g W p q hold ready small annotated agents pending lines c es tr s full w tables table (rules.out_msg_rule path v m n).name ks (st.number ∷ st.other ∷ []) b st.numbers (slice_set agents st.thread (Some waits)) (come tables (st.thread ∷ st.thread ∷ [])) rest acts right (IsWrittenAsProcess.sends st.thread st.number st.other k.0 path st.env b m n x.0 y.0 u st.seated x.1 y.1, λ fs i. (trades_two laws g W p q hold ready small annotated agents pending lines c es tr s full w tables table st (message_waits laws g σ st.used.fits.messages m n (fresh k.0) x.0 y.0 path st.env right k.1 (instance_form st.env σ m x.0 st.same in_scope.0 x.1) (instance_form st.env σ n y.0 st.same in_scope.1 y.1) st.same st.used.fits.adds), kept refl refl i)) f
       (ap (λ a. marks (a ∷ [])) (no_acts (equations g) acts st.used.fits.shows))
       (every-set (SentWithin g W) agents st.thread (Some waits) w.within (λ a e. subst (λ z. SentWithin g W z) (some_agent waits a e) both))
     where
@@ -252,7 +253,7 @@ module _ (laws : Laws) (g : Sig) (W : Tree → Type 0) (p q : Proc) (hold : Hold
       let channel = one_within laws g W p q hold ready small annotated agents pending lines c es tr s full w tables table st.env σ rule (msg_fact (variable tag) l r) l st.same in_scope st.within (Member.later Member.here) (Member.later Member.here) in
       let all = three (term_under o.env o.m) (term_under o.env o.n) (term_under st.env l) sent channel in
       silent laws g W p q hold ready small annotated agents pending lines c es tr s full w tables table (rules.in_msg_rule path v l r).name ks (st.number ∷ st.other ∷ []) b st.numbers (goes_on (slice_set agents o.thread (Some (received o.path o.env o.m o.n o.body o.tag))) st.thread path wider u) (come tables (o.thread ∷ st.thread ∷ [])) rest acts right (process.meets o.thread st.thread σ) []
-      (becomes (becomes c o.thread (Some (under o.env o.body))) st.thread (Some (under wider u))) (IsWritten.meets o.thread st.thread st.number st.other o.tag o.path path o.env st.env b o.m o.n args.channel args.sent l r σ o.body u o.is (there ∙ ap (λ z. Some (Some (msg_fact z args.channel args.sent))) o.same) number_of st.seated, λ fs i. (traded st.used.takes (st.lefts ∙ ap (λ z. state_fact path (values st.env) ∷ z ∷ []) (args.is ∙ ap (λ z. msg_fact z args.channel args.sent) o.same)) (ack_then_state laws g σ st.used.fits.messages (fresh o.tag) (first_of path) wider right tag_is (wider_by_new laws st.env σ (tree_vars r) st.same) st.used.fits.adds), kept refl refl i)) f (
+      (becomes (becomes c o.thread (Some (under o.env o.body))) st.thread (Some (under wider u))) (IsWrittenAsProcess.meets o.thread st.thread st.number st.other o.tag o.path path o.env st.env b o.m o.n args.channel args.sent l r σ o.body u o.is (there ∙ ap (λ z. Some (Some (msg_fact z args.channel args.sent))) o.same) number_of st.seated, λ fs i. (traded st.used.takes (st.lefts ∙ ap (λ z. state_fact path (values st.env) ∷ z ∷ []) (args.is ∙ ap (λ z. msg_fact z args.channel args.sent) o.same)) (ack_then_state laws g σ st.used.fits.messages (fresh o.tag) (first_of path) wider right tag_is (wider_by_new laws st.env σ (tree_vars r) st.same) st.used.fits.adds), kept refl refl i)) f (
         refl,
         λ m n a z i j one two. met (process_of sender) (process_of (running path st.env body)) (act (action.send m n) i) (act (action.receive a z) j)
             (runs_one c o.thread (process_of sender) (act (action.send m n) i) (agent_runs laws g W q agents pending c tr s full w.together.related es tables table o.thread sender o.is) one)

@@ -5,7 +5,7 @@ use Rattle.std.specs.Str.{bytes_eq}
 use Rattle.sap_terms.proofs.PlainLaws.Items.{first_item, later_item}
 use Rattle.sap_rule.specs.Named.{rule_named}
 use Rattle.sap_rule.specs.declared.rule.Rule.{Rule}
-use Rattle.sap_back.proofs.owners.Facts.{same_name_true}
+use Rattle.sap_translate.proofs.Shared.Facts.{same_name_true}
 
 -- it is one of the rules
 pub found_among : (rs : List Rule) (name : List ℕ) (r : Rule) → rule_named rs name ≡ Some r → Contains rs r

@@ -25,7 +25,7 @@ use Rattle.sap_translate.specs.Members.{Member}
 use Rattle.sap_translate.specs.PlaceRules.{IsOfPlace}
 use Rattle.sap_translate.specs.Scoped.{AreUnreserved}
 use Rattle.sap_translate.specs.Sound.{IsSound, SoundAt, IsSoundAction}
-use Rattle.sap_translate.specs.Templates.{rules_of, init_rule, own_rules, action_rules, embedded_acts}
+use Rattle.sap_templates.specs.Templates.{rules_of, init_rule, own_rules, action_rules, embedded_acts}
 use Rattle.sap_back.specs.code.Replayed.{ShowOneReserved}
 use Rattle.sap_back.proofs.Named.{found_among}
 

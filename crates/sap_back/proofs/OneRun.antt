@@ -1,8 +1,7 @@
 -- A written run of rules leads to one state and has one full trace; and what is counted goes on where another stops.
 use Rattle.std.proofs.Common.{◌≡◌, ◌+◌, ◌⊎◌, ℕ, zero, suc, Bool, true, false, nat_eq, List, [], ◌∷◌, ◌++◌, length, refl, sym, ap, subst, ◌∙◌, inl, inr, rules, append_assoc}
-use Rattle.std.proofs.lemmas.List.{append-nil}
+use Rattle.std.proofs.lemmas.List.{append-nil, same_from_push}
 use Rattle.std.specs.Prelude.{All}
-use Rattle.std.proofs.lemmas.List.{same_from_push}
 use Rattle.sap_terms.specs.Message.{IsMessageTrace}
 use Rattle.sap_terms.specs.Signature.{Sig, HoldsBuiltins}
 use Rattle.sap_terms.specs.Trace.{Trace}
@@ -24,8 +23,8 @@ use Rattle.sap_steps.specs.Lines.{IsLine}
 use Rattle.sap_steps.specs.Runs.{IsLegalRun, LinesAreRuns}
 use Rattle.sap_steps.specs.declared.fault.RFault.{RFault}
 use Rattle.sap_steps.specs.declared.fault.RFault.TheVariants.{Mem}
-use Rattle.sap_translate.specs.Templates.{rules_of}
-use Rattle.sap_back.specs.Answers.{HasSomeAnswer, HaveOneAnswer}
+use Rattle.sap_templates.specs.Templates.{rules_of}
+use Rattle.sap_back.specs.Answers.{IsAdmittedRefusedOrBroken, HaveOneAnswer}
 use Rattle.sap_back.specs.Converted.{IsAdmittedRun, IsFirstBroken, IsFirstRefusedOfRules}
 
 -- none has an item at its end
@@ -215,7 +214,7 @@ module _ (prefix : PrefixLaw) (runs : LinesAreRuns HasFewNodes) (reached : RunsR
   of_broken : (lines : List RStep) (n : ℕ) (which : Which) → (r : IsFirstBroken g q lines n which) → Breaks r.state r.full r.line
   of_broken lines n which r = record { acts = r.acts; next = r.next; which = which; possible = r.possible; broken = r.broken.this }
 
-  pub one_answer : (rule_lines : List RStep) → HasSomeAnswer g q rule_lines → HaveOneAnswer g q rule_lines
+  pub one_answer : (rule_lines : List RStep) → IsAdmittedRefusedOrBroken g q rule_lines → HaveOneAnswer g q rule_lines
   one_answer lines some = record {
     some = some;
     one_run = λ s z full tr a b. one_run lines lines s z full tr refl a.legal b.legal;

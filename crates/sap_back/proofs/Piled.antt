@@ -7,7 +7,7 @@ use Rattle.sap_terms.specs.declared.fact.Fact.{Fact}
 use Rattle.sap_translate.specs.Members.{Member}
 use Rattle.sap_translate.specs.Scoped.{AreUnreserved}
 use Rattle.sap_back.proofs.Seats.{was_there}
-use Rattle.sap_back.proofs.owners.Lookups.{get-set_other, get-set_same}
+use Rattle.sap_translate.proofs.Shared.Lookups.{get-set_other, get-set_same}
 
 -- a live fact with a name of its own is live in the other pile, with the number that the table has for it, and has it alone
 pub record Corresponds (numbers : List ℕ) (xs ys : Pile) : Type 0 where

@@ -25,10 +25,10 @@ use Rattle.sap_runs.specs.Limits.{HasFewNodes}
 use Rattle.sap_steps.specs.Runs.{LinesAreSteps, LinesAreRuns}
 use Rattle.sap_translate.specs.Opened.{left_open, opened}
 use Rattle.sap_translate.specs.PlaceRules.{IsOfPlace}
-use Rattle.sap_translate.specs.Places.{root, scoped_place_at}
+use Rattle.sap_templates.specs.Places.{root, scoped_place_at}
 use Rattle.sap_translate.specs.Scoped.{FactsWithin, Within}
 use Rattle.sap_translate.specs.Sound.{IsSound}
-use Rattle.sap_translate.specs.Templates.{init_rule, own_rules, rules_of}
+use Rattle.sap_templates.specs.Templates.{init_rule, own_rules, rules_of}
 use Rattle.sap_translate.specs.relation.Answers.{term_under, widened}
 use Rattle.sap_translate.specs.relation.Envs.{Env, GoodEnv, chosen, filled, join, names}
 use Rattle.sap_translate.specs.relation.Spelled.{IsProcessOver}

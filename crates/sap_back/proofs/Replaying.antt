@@ -17,7 +17,7 @@ use Rattle.sap_steps.specs.Lines.{IsLine}
 use Rattle.sap_steps.specs.Runs.{IsLegalRun}
 use Rattle.sap_steps.specs.State.{State}
 use Rattle.sap_steps.specs.declared.fault.RFault.{RFault}
-use Rattle.sap_translate.specs.Templates.{rules_of}
+use Rattle.sap_templates.specs.Templates.{rules_of}
 use Rattle.sap_back.specs.Converted.{IsFirstBroken, IsFirstRefusedOfRules}
 use Rattle.sap_back.specs.code.Replayed.{IsReplayed, IsTakenUp, IsStopped, ShowOneReserved}
 use Rattle.sap_back.specs.declared.back_at.BackAt.{BackAt}

@@ -23,9 +23,9 @@ use Rattle.sap_rule.specs.declared.rule.Rule.{Rule}
 use Rattle.sap_lines.specs.Lines.{EvaluateWithin}
 use Rattle.sap_steps.specs.Lines.{IsEvaluated, Binds, rule_terms}
 use Rattle.sap_translate.specs.Members.{Member}
-use Rattle.sap_translate.specs.Places.{root, scoped_place_at, ScopedPlace}
+use Rattle.sap_templates.specs.Places.{root, scoped_place_at, ScopedPlace}
 use Rattle.sap_translate.specs.Scoped.{Within}
-use Rattle.sap_translate.specs.Templates.{state}
+use Rattle.sap_templates.specs.Templates.{state}
 use Rattle.sap_translate.specs.relation.Agents.{Agent, running, copying, process_of, IsAt}
 use Rattle.sap_translate.specs.relation.Answers.{Copies, term_under}
 use Rattle.sap_translate.specs.relation.Counts.{has_init}
@@ -36,12 +36,13 @@ use Rattle.sap_translate.specs.relation.Related.{Related}
 use Rattle.sap_translate.specs.relation.Shown.{MeetsSix}
 use Rattle.sap_back.proofs.Premises.{Laws}
 use Rattle.sap_back.proofs.Terms.{contains, SameOn, same_term, variables_same, rule_term_within}
-use Rattle.sap_back.proofs.owners.Facts.{made}
-use Rattle.sap_back.proofs.owners.Lookups.{map_get}
-use Rattle.sap_back.proofs.owners.Owner.{Owners}
-use Rattle.sap_back.proofs.owners.Standing.{agent_of, copy_agent_of}
-use Rattle.sap_back.specs.Followed.{Seated}
-use Rattle.sap_back.specs.Tables.{Tables, AreTables}
+use Rattle.sap_translate.proofs.Shared.Facts.{made}
+use Rattle.sap_translate.proofs.Shared.Lookups.{map_get}
+use Rattle.sap_translate.proofs.Shared.Owners.{Owners}
+use Rattle.sap_translate.proofs.Shared.Standing.{agent_of, copy_agent_of}
+use Rattle.sap_back.specs.Followed.{SeatedByFact}
+use Rattle.sap_process_lines.specs.Tables.{ProcessTables}
+use Rattle.sap_back.specs.Tables.{AreProcessTables}
 
 -- the first of the facts that are taken
 pub record Head (facts : Pile) (ks : List ℕ) (fs : List Fact) (rest : Pile) (f : Fact) (more : List Fact) : Type 0 where
@@ -83,7 +84,7 @@ pub record Fired (g : Sig) (W : Tree → Type 0) (s : RuleState) (full : Trace) 
   pub once : total has_init (full ++ acts ∷ []) ≤ 1
 
 -- the thread of a rule that takes its state fact, and what it has in scope
-pub record Seat (g : Sig) (W : Tree → Type 0) (start : Proc) (agents : List (Option Agent)) (s : RuleState) (full : Trace) (tables : Tables) (path : List ℕ) (R : List Var → Rule) (body : Proc) (ks : List ℕ) (b : List Binding) (σ : Choice) (left acts right : List Fact) (rest : Pile) : Type 0 where
+pub record Seat (g : Sig) (W : Tree → Type 0) (start : Proc) (agents : List (Option Agent)) (s : RuleState) (full : Trace) (tables : ProcessTables) (path : List ℕ) (R : List Var → Rule) (body : Proc) (ks : List ℕ) (b : List Binding) (σ : Choice) (left acts right : List Fact) (rest : Pile) : Type 0 where
   pub thread : ℕ
   pub env : Env
   pub number : ℕ
@@ -92,13 +93,13 @@ pub record Seat (g : Sig) (W : Tree → Type 0) (start : Proc) (agents : List (O
   pub numbers : ks ≡ number ∷ others
   pub lefts : left ≡ state_fact path (values env) ∷ taken
   pub later : Takes (used s.facts number (state_fact path (values env))) others taken rest
-  pub seated : Seated agents s tables thread number path env body
+  pub seated : SeatedByFact agents s tables thread number path env body
   pub at : IsAt g start path env body
   pub same : SameOn (names env) σ env.choice
   pub fired : Fired g W s full (R (names env)) ks b σ left acts right rest
 
 -- the thread of a replication that has started
-pub record CopySeat (g : Sig) (W : Tree → Type 0) (start : Proc) (agents : List (Option Agent)) (s : RuleState) (full : Trace) (tables : Tables) (path : List ℕ) (R : List Var → Rule) (body : Proc) (ks : List ℕ) (b : List Binding) (σ : Choice) (left acts right : List Fact) (rest : Pile) : Type 0 where
+pub record CopySeat (g : Sig) (W : Tree → Type 0) (start : Proc) (agents : List (Option Agent)) (s : RuleState) (full : Trace) (tables : ProcessTables) (path : List ℕ) (R : List Var → Rule) (body : Proc) (ks : List ℕ) (b : List Binding) (σ : Choice) (left acts right : List Fact) (rest : Pile) : Type 0 where
   pub thread : ℕ
   pub env : Env
   pub number : ℕ
@@ -109,7 +110,7 @@ pub record CopySeat (g : Sig) (W : Tree → Type 0) (start : Proc) (agents : Lis
   pub same : SameOn (names env) σ env.choice
   pub fired : Fired g W s full (R (names env)) ks b σ left acts right rest
 
-module _ (laws : Laws) (g : Sig) (W : Tree → Type 0) (start : Proc) (agents : List (Option Agent)) (pending : Option Tree) (c : Config) (tr : Trace) (s : RuleState) (full : Trace) (r : Related g start agents pending c tr s full) (es : List Tree) (tables : Tables) (table : AreTables agents pending c es s tables) where
+module _ (laws : Laws) (g : Sig) (W : Tree → Type 0) (start : Proc) (agents : List (Option Agent)) (pending : Option Tree) (c : Config) (tr : Trace) (s : RuleState) (full : Trace) (r : Related g start agents pending c tr s full) (es : List Tree) (tables : ProcessTables) (table : AreProcessTables agents pending c es s tables) where
   -- the table has a number for each live fact
   pub numbered : (k : ℕ) (f : Fact) → slice_get s.facts k ≡ Some (Some f) → (t : ℕ) × (slice_get tables.facts k ≡ Some t)
   numbered k f e = there_too s.facts tables.facts k (Some f) (sym table.all_facts) e
@@ -199,13 +200,13 @@ module _ (laws : Laws) (g : Sig) (W : Tree → Type 0) (start : Proc) (agents : 
           }
 
 -- of a rule that takes its state fact alone
-pub record Alone (g : Sig) (W : Tree → Type 0) (start : Proc) (agents : List (Option Agent)) (s : RuleState) (full : Trace) (tables : Tables) (path : List ℕ) (R : List Var → Rule) (body : Proc) (ks : List ℕ) (σ : Choice) (left acts right : List Fact) (rest : Pile) : Type 0 where
+pub record Alone (g : Sig) (W : Tree → Type 0) (start : Proc) (agents : List (Option Agent)) (s : RuleState) (full : Trace) (tables : ProcessTables) (path : List ℕ) (R : List Var → Rule) (body : Proc) (ks : List ℕ) (σ : Choice) (left acts right : List Fact) (rest : Pile) : Type 0 where
   pub thread : ℕ
   pub env : Env
   pub number : ℕ
   pub numbers : ks ≡ number ∷ []
   pub lefts : left ≡ state_fact path (values env) ∷ []
-  pub seated : Seated agents s tables thread number path env body
+  pub seated : SeatedByFact agents s tables thread number path env body
   pub at : IsAt g start path env body
   pub same : SameOn (names env) σ env.choice
   pub used : IsUsed g s full (R (names env)) (number ∷ []) σ left acts right rest
@@ -213,7 +214,7 @@ pub record Alone (g : Sig) (W : Tree → Type 0) (start : Proc) (agents : List (
   pub demands : MeetsSix (equations g) (full ++ acts ∷ [])
 
 -- of one that takes another linear fact
-pub record Beside (g : Sig) (W : Tree → Type 0) (start : Proc) (agents : List (Option Agent)) (s : RuleState) (full : Trace) (tables : Tables) (path : List ℕ) (R : List Var → Rule) (body : Proc) (l : Fact) (ks : List ℕ) (σ : Choice) (left acts right : List Fact) (rest : Pile) : Type 0 where
+pub record Beside (g : Sig) (W : Tree → Type 0) (start : Proc) (agents : List (Option Agent)) (s : RuleState) (full : Trace) (tables : ProcessTables) (path : List ℕ) (R : List Var → Rule) (body : Proc) (l : Fact) (ks : List ℕ) (σ : Choice) (left acts right : List Fact) (rest : Pile) : Type 0 where
   pub thread : ℕ
   pub env : Env
   pub number : ℕ
@@ -221,7 +222,7 @@ pub record Beside (g : Sig) (W : Tree → Type 0) (start : Proc) (agents : List 
   pub numbers : ks ≡ number ∷ other ∷ []
   pub fact : Fact
   pub lefts : left ≡ state_fact path (values env) ∷ fact ∷ []
-  pub seated : Seated agents s tables thread number path env body
+  pub seated : SeatedByFact agents s tables thread number path env body
   pub at : IsAt g start path env body
   pub same : SameOn (names env) σ env.choice
   pub is : slice_get s.facts other ≡ Some (Some fact)
@@ -241,7 +242,7 @@ pub equal_none : (g : Sig) (fs : List Fact) → AreEqualFacts (equations g) [] f
 equal_none g [] h = refl
 equal_none g (f ∷ fs) h = absurd h
 
-module _ (laws : Laws) (g : Sig) (W : Tree → Type 0) (start : Proc) (agents : List (Option Agent)) (pending : Option Tree) (c : Config) (tr : Trace) (s : RuleState) (full : Trace) (r : Related g start agents pending c tr s full) (es : List Tree) (tables : Tables) (table : AreTables agents pending c es s tables) where
+module _ (laws : Laws) (g : Sig) (W : Tree → Type 0) (start : Proc) (agents : List (Option Agent)) (pending : Option Tree) (c : Config) (tr : Trace) (s : RuleState) (full : Trace) (r : Related g start agents pending c tr s full) (es : List Tree) (tables : ProcessTables) (table : AreProcessTables agents pending c es s tables) where
   pub alone : (path : List ℕ) (v : List Var) (body : Proc) (R : List Var → Rule) → ((x : List Var) → (R x).left ≡ state path x ∷ []) → scoped_place_at (root start) path ≡ Some (place path v body)
       → (ks : List ℕ) (b : List Binding) (σ : Choice) (left acts right : List Fact) (rest : Pile) → Fired g W s full (R v) ks b σ left acts right rest → Alone g W start agents s full tables path R body ks σ left acts right rest
   alone path v body R is at ks b σ left acts right rest fired =

@@ -18,8 +18,8 @@ use Rattle.sap_runs.specs.declared.rule_step.RStep.{RStep}
 use Rattle.sap_steps.specs.Answers.{ReachedHaveSomeAnswer}
 use Rattle.sap_steps.specs.Lines.{IsLine}
 use Rattle.sap_steps.specs.Runs.{IsLegalRun, LinesAreRuns}
-use Rattle.sap_translate.specs.Templates.{rules_of}
-use Rattle.sap_back.specs.Answers.{HasSomeAnswer}
+use Rattle.sap_templates.specs.Templates.{rules_of}
+use Rattle.sap_back.specs.Answers.{IsAdmittedRefusedOrBroken}
 use Rattle.sap_back.specs.Converted.{IsAdmittedRun}
 use Rattle.sap_back.specs.code.Replayed.{ShowOneReserved}
 
@@ -36,7 +36,7 @@ module _ (quiet : QuietLaw) (one_more : OneMoreLaw) (runs : LinesAreRuns HasFewN
   no_lines = record { legal = IsLegalRun.starts; admitted = λ w. quiet w g [] (λ k f m named. nothing_in f m) }
 
   -- one line more behind lines that count: all count, or it stops the run
-  next : (done rest : List RStep) (line : RStep) (s : RuleState) (full : Trace) → IsAdmittedRun g q done s full → All HasOneReserved full → ((z : RuleState) × (tr : Trace) × IsAdmittedRun g q (done ++ line ∷ []) z tr × All HasOneReserved tr) ⊎ HasSomeAnswer g q (done ++ line ∷ rest)
+  next : (done rest : List RStep) (line : RStep) (s : RuleState) (full : Trace) → IsAdmittedRun g q done s full → All HasOneReserved full → ((z : RuleState) × (tr : Trace) × IsAdmittedRun g q (done ++ line ∷ []) z tr × All HasOneReserved tr) ⊎ IsAdmittedRefusedOrBroken g q (done ++ line ∷ rest)
   next done rest line s full counted each = elim (some g (rules_of q) s full line hold well (runs g (rules_of q) done s full counted.legal)) [
     | inr r ↦ inr (inr (inl (
       length done + 1,
@@ -57,7 +57,7 @@ module _ (quiet : QuietLaw) (one_more : OneMoreLaw) (runs : LinesAreRuns HasFewN
     | inl l ↦ possible l.0 l.1 l.2
   ]
     where
-      possible : (acts : List Fact) (z : RuleState) → IsLine g (rules_of q) HasFewNodes s line acts z → ((z : RuleState) × (tr : Trace) × IsAdmittedRun g q (done ++ line ∷ []) z tr × All HasOneReserved tr) ⊎ HasSomeAnswer g q (done ++ line ∷ rest)
+      possible : (acts : List Fact) (z : RuleState) → IsLine g (rules_of q) HasFewNodes s line acts z → ((z : RuleState) × (tr : Trace) × IsAdmittedRun g q (done ++ line ∷ []) z tr × All HasOneReserved tr) ⊎ IsAdmittedRefusedOrBroken g q (done ++ line ∷ rest)
       possible acts z is =
           let legal : IsLegalRun g (rules_of q) HasFewNodes (done ++ line ∷ []) z (full ++ acts ∷ []) = IsLegalRun.further line acts counted.legal is in
           let one = shown s z line acts is in
@@ -84,12 +84,12 @@ module _ (quiet : QuietLaw) (one_more : OneMoreLaw) (runs : LinesAreRuns HasFewN
             )))
           ]
 
-  answer_on : (done rest : List RStep) (s : RuleState) (full : Trace) → IsAdmittedRun g q done s full → All HasOneReserved full → HasSomeAnswer g q (done ++ rest)
+  answer_on : (done rest : List RStep) (s : RuleState) (full : Trace) → IsAdmittedRun g q done s full → All HasOneReserved full → IsAdmittedRefusedOrBroken g q (done ++ rest)
   answer_on done [] s full counted each = inl (s, full, subst (λ ls. IsAdmittedRun g q ls s full) (sym (append-nil done)) counted)
   answer_on done (line ∷ rest) s full counted each = elim (next done rest line s full counted each) [
     | inr h ↦ h
-    | inl n ↦ subst (HasSomeAnswer g q) (append_assoc done (line ∷ []) rest) (answer_on (done ++ line ∷ []) rest n.0 n.1 n.2 n.3)
+    | inl n ↦ subst (IsAdmittedRefusedOrBroken g q) (append_assoc done (line ∷ []) rest) (answer_on (done ++ line ∷ []) rest n.0 n.1 n.2 n.3)
   ]
 
-  pub some_answer : (lines : List RStep) → HasSomeAnswer g q lines
+  pub some_answer : (lines : List RStep) → IsAdmittedRefusedOrBroken g q lines
   some_answer lines = answer_on [] lines empty_state [] no_lines (All-nil HasOneReserved)

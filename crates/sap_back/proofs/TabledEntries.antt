@@ -10,16 +10,17 @@ use Rattle.sap_rule.specs.RuleSteps.{RuleState, gains, leaves}
 use Rattle.sap_translate.specs.relation.Agents.{Agent}
 use Rattle.std.proofs.lemmas.List.{length-append}
 use Rattle.sap_back.proofs.Changes.{Comes}
-use Rattle.sap_back.proofs.owners.Inputs.{get_last}
+use Rattle.sap_translate.proofs.Shared.Lookups.{get_last}
 use Rattle.sap_back.proofs.Effects.{Gets, Keeps}
 use Rattle.sap_back.proofs.TabledThreads.{Kept, Longer, entries_stay, more_longer, once_none, once_one, pending_stays, plain, push_entries, reserved_more, reserved_none, same_longer, stand_old}
-use Rattle.sap_back.proofs.owners.Takings.{first_there, takes_kept, takes_length}
-use Rattle.sap_back.specs.Tables.{Tables, AreTables, come, with_known, enters, waiting}
+use Rattle.sap_back.proofs.Takings.{first_there, takes_kept, takes_length}
+use Rattle.sap_process_lines.specs.Tables.{ProcessTables, come, with_known, enters, waiting}
+use Rattle.sap_back.specs.Tables.{AreProcessTables}
 
-module _ (g : Sig) (agents : List (Option Agent)) (pending : Option Tree) (c : Config) (es : List Tree) (s : RuleState) (tables : Tables) (old : AreTables agents pending c es s tables) (z : RuleState) (d : Config) (fs : List Tree) where
+module _ (g : Sig) (agents : List (Option Agent)) (pending : Option Tree) (c : Config) (es : List Tree) (s : RuleState) (tables : ProcessTables) (old : AreProcessTables agents pending c es s tables) (z : RuleState) (d : Config) (fs : List Tree) where
   -- the rules know one term more, which is this entry
   gained : (rest : Pile) (x : Tree) (e known : ℕ) → Kept g agents pending c es s tables old rest → length rest ≡ length s.facts → z ≡ gains (leaves s rest) x → d.facts ≡ c.facts → Longer g agents pending c es s tables old fs → slice_get fs e ≡ Some x → known ≡ length fs
-      → AreTables agents pending d fs z (record tables { entries = tables.entries ++ e ∷ []; known = known })
+      → AreProcessTables agents pending d fs z (record tables { entries = tables.entries ++ e ∷ []; known = known })
   gained rest x e known kept size is same longer entry all =
       let terms : z.known ≡ s.known ++ x ∷ [] = ap (λ (y : RuleState). y.known) is in
       let j = length-append tables.entries (e ∷ []) in
@@ -32,14 +33,14 @@ module _ (g : Sig) (agents : List (Option Agent)) (pending : Option Tree) (c : C
       (omega arith) (pending_stays es fs longer pending tables.pending old.waits) old.threads all
 
   -- it learns what was sent
-  pub learns : (k e : ℕ) (x : Tree) (rest : Pile) → slice_get tables.facts k ≡ Some e → Takes s.facts (k ∷ []) (out_fact x ∷ []) rest → z ≡ gains (leaves s rest) x → Keeps c es d fs → AreTables agents pending d fs z (enters tables e)
+  pub learns : (k e : ℕ) (x : Tree) (rest : Pile) → slice_get tables.facts k ≡ Some e → Takes s.facts (k ∷ []) (out_fact x ∷ []) rest → z ≡ gains (leaves s rest) x → Keeps c es d fs → AreProcessTables agents pending d fs z (enters tables e)
   learns k e x rest number takes is keeps =
       let longer = same_longer es fs keeps.entries in
       gained rest x e tables.known (takes_kept takes) (takes_length takes) is keeps.facts longer (longer e x (old.sent k e x (first_there takes) number))
       (old.known ∙ ap (λ (xs : List Tree). length xs) (sym keeps.entries))
 
   -- it writes a new entry
-  gets : (rest : Pile) (x : Tree) → Kept g agents pending c es s tables old rest → length rest ≡ length s.facts → z ≡ gains (leaves s rest) x → Gets c es d fs x → AreTables agents pending d fs z (with_known (enters tables tables.known))
+  gets : (rest : Pile) (x : Tree) → Kept g agents pending c es s tables old rest → length rest ≡ length s.facts → z ≡ gains (leaves s rest) x → Gets c es d fs x → AreProcessTables agents pending d fs z (with_known (enters tables tables.known))
   gets rest x kept size is more =
       let l = length-append es (x ∷ []) in
       let m : length fs ≡ length (es ++ x ∷ []) = ap (λ (xs : List Tree). length xs) more.entries in
@@ -47,15 +48,15 @@ module _ (g : Sig) (agents : List (Option Agent)) (pending : Option Tree) (c : C
       gained rest x tables.known (tables.known + 1) kept size is more.facts (more_longer es fs x more.entries) (ap (λ i. slice_get fs i) old.known ∙ ap (λ xs. slice_get xs (length es)) more.entries ∙ get_last es x) (omega arith)
 
   -- which is a name
-  pub owns : (k n : ℕ) (rest : Pile) → Takes s.facts (k ∷ []) (fr_fact n ∷ []) rest → z ≡ gains (leaves s rest) (fresh n) → Gets c es d fs (fresh n) → AreTables agents pending d fs z (with_known (enters tables tables.known))
+  pub owns : (k n : ℕ) (rest : Pile) → Takes s.facts (k ∷ []) (fr_fact n ∷ []) rest → z ≡ gains (leaves s rest) (fresh n) → Gets c es d fs (fresh n) → AreProcessTables agents pending d fs z (with_known (enters tables tables.known))
   owns k n rest takes is more = gets rest (fresh n) (takes_kept takes) (takes_length takes) is more
 
   -- or a term that it makes
-  pub writes : (x : Tree) → z ≡ gains s x → Gets c es d fs x → AreTables agents pending d fs z (with_known (enters tables tables.known))
+  pub writes : (x : Tree) → z ≡ gains s x → Gets c es d fs x → AreProcessTables agents pending d fs z (with_known (enters tables tables.known))
   writes x is more = gets s.facts x (λ k f e. e) refl is more
 
   -- Fr is made of a name
-  pub makes : (n : ℕ) → z ≡ state.makes s n → Keeps c es d fs → AreTables agents pending d fs z (come tables (n ∷ []))
+  pub makes : (n : ℕ) → z ≡ state.makes s n → Keeps c es d fs → AreProcessTables agents pending d fs z (come tables (n ∷ []))
   makes n is keeps =
       let longer = same_longer es fs keeps.entries in
       let terms : z.known ≡ s.known = ap (λ (y : RuleState). y.known) is in
@@ -64,7 +65,7 @@ module _ (g : Sig) (agents : List (Option Agent)) (pending : Option Tree) (c : C
       (old.all_entries ∙ ap (λ (xs : List Tree). length xs) (sym terms)) (pending_stays es fs longer pending tables.pending old.waits) old.threads (old.known ∙ ap (λ (xs : List Tree). length xs) (sym keeps.entries))
 
   -- it gives an entry, which is pending
-  pub knows : (k e : ℕ) (x : Tree) → slice_get s.known k ≡ Some x → slice_get tables.entries k ≡ Some e → z ≡ leaves s (adds s.facts (in_fact x ∷ [])) → Keeps c es d fs → AreTables agents (Some x) d fs z (waiting (come tables (0 ∷ [])) (Some e))
+  pub knows : (k e : ℕ) (x : Tree) → slice_get s.known k ≡ Some x → slice_get tables.entries k ≡ Some e → z ≡ leaves s (adds s.facts (in_fact x ∷ [])) → Keeps c es d fs → AreProcessTables agents (Some x) d fs z (waiting (come tables (0 ∷ [])) (Some e))
   knows k e x entry number is keeps =
       let longer = same_longer es fs keeps.entries in
       let terms : z.known ≡ s.known = ap (λ (y : RuleState). y.known) is in

@@ -13,20 +13,21 @@ use Rattle.sap_place.specs.StateFacts.{state_fact}
 use Rattle.sap_rule.specs.RuleSteps.{RuleState}
 use Rattle.sap_translate.specs.Members.{Member}
 use Rattle.sap_translate.specs.Scoped.{AreUnreserved}
-use Rattle.sap_translate.specs.Templates.{first_of}
+use Rattle.sap_templates.specs.Templates.{first_of}
 use Rattle.sap_translate.specs.relation.Agents.{Agent, running}
 use Rattle.sap_translate.specs.relation.Answers.{at_first, goes_on as onwards}
 use Rattle.sap_translate.specs.relation.Envs.{Env, values}
 use Rattle.std.proofs.lemmas.List.{length-append, length-map}
 use Rattle.sap_back.proofs.Changes.{Comes, changed, control_or_user}
-use Rattle.sap_back.proofs.owners.Inputs.{get-append_left}
+use Rattle.sap_translate.proofs.Shared.Lookups.{get-append_left, get-set_same, get-set_other, map_get}
 use Rattle.sap_back.proofs.Effects.{Embeds}
 use Rattle.sap_back.proofs.TabledThreads.{Once, born_set, entries_stay, is_born, longer_path, pending_stays, same_longer, stand_moved, unlike_running}
-use Rattle.sap_back.proofs.owners.Lookups.{get-set_same, get-set_other, map_get}
-use Rattle.sap_back.proofs.owners.Standing.{state_name_same}
-use Rattle.sap_back.proofs.owners.Takings.{used_kept, used_gone, takes_kept, takes_later, takes_length, length_set}
-use Rattle.sap_back.specs.Followed.{Seated, numbers_from, with_pile, left_pending}
-use Rattle.sap_back.specs.Tables.{Tables, AreTables, IsPending, waiting}
+use Rattle.sap_translate.proofs.Shared.Names.{state_name_same}
+use Rattle.sap_back.proofs.Takings.{used_kept, used_gone, takes_kept, takes_later, takes_length, length_set}
+use Rattle.sap_back.specs.Followed.{SeatedByFact, left_pending}
+use Rattle.sap_rule_lines.specs.RuleLines.{numbers_from}
+use Rattle.sap_process_lines.specs.Tables.{with_pile, ProcessTables, waiting}
+use Rattle.sap_back.specs.Tables.{AreProcessTables, IsPending}
 
 -- a live fact with a name of its own has there the number that the table has for it
 abbrev Paired : List ℕ → Pile → Pile → Type 0
@@ -109,9 +110,9 @@ left_stays : (es fs : List Tree) → ((e : ℕ) (x : Tree) → slice_get es e �
 left_stays es fs longer [] pending k h = pending_stays es fs longer pending k h
 left_stays es fs longer (f ∷ acts) pending k h = refl
 
-module _ (g : Sig) (agents : List (Option Agent)) (pending : Option Tree) (c : Config) (es : List Tree) (s : RuleState) (tables : Tables) (old : AreTables agents pending c es s tables) (z : RuleState) (d : Config) (fs : List Tree) where
-  pub embeds : (t k : ℕ) (js ks path : List ℕ) (env wider : Env) (body p : Proc) (o acts : List Fact) → Seated agents s tables t k path env body → map (slice_get tables.facts) js ≡ map (λ i. Some i) ks → Embeds s z c es d fs k js ks (state_fact path (values env)) (at_first path wider) o
-      → AreTables (onwards agents t path wider p) (left_pending acts pending) d fs z (waiting (with_pile tables t (length o)) (left_pending acts tables.pending))
+module _ (g : Sig) (agents : List (Option Agent)) (pending : Option Tree) (c : Config) (es : List Tree) (s : RuleState) (tables : ProcessTables) (old : AreProcessTables agents pending c es s tables) (z : RuleState) (d : Config) (fs : List Tree) where
+  pub embeds : (t k : ℕ) (js ks path : List ℕ) (env wider : Env) (body p : Proc) (o acts : List Fact) → SeatedByFact agents s tables t k path env body → map (slice_get tables.facts) js ≡ map (λ i. Some i) ks → Embeds s z c es d fs k js ks (state_fact path (values env)) (at_first path wider) o
+      → AreProcessTables (onwards agents t path wider p) (left_pending acts pending) d fs z (waiting (with_pile tables t (length o)) (left_pending acts tables.pending))
   embeds t k js ks path env wider body p o acts seated numbers e = changed agents pending c es s tables old next (left_pending acts pending) d fs z behind (record {
     rest = e.trades.rest;
     right = at_first path wider ∷ e.right;
@@ -144,7 +145,7 @@ module _ (g : Sig) (agents : List (Option Agent)) (pending : Option Tree) (c : C
       next : List (Option Agent)
       next = slice_set agents t (Some to)
 
-      behind : Tables
+      behind : ProcessTables
       behind = waiting (with_pile tables t (length o)) (left_pending acts tables.pending)
 
       longer : (i : ℕ) (x : Tree) → slice_get es i ≡ Some x → slice_get fs i ≡ Some x

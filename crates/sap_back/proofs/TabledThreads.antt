@@ -11,9 +11,9 @@ use Rattle.sap_process.specs.Configuration.{Config}
 use Rattle.sap_process.specs.Proc.{Proc, replicated}
 use Rattle.sap_place.specs.StateFacts.{state_fact, copies_fact, waits_fact}
 use Rattle.sap_rule.specs.RuleSteps.{RuleState}
-use Rattle.sap_translate.specs.ChannelFacts.{msg_fact, ack_fact}
+use Rattle.sap_templates.specs.ChannelFacts.{msg_fact, ack_fact}
 use Rattle.sap_translate.specs.Members.{Member}
-use Rattle.sap_translate.specs.Templates.{first_of, second_of}
+use Rattle.sap_templates.specs.Templates.{first_of, second_of}
 use Rattle.sap_translate.specs.relation.Agents.{Agent, unborn, running, copying, awaiting, received, stands_as}
 use Rattle.sap_translate.specs.relation.Answers.{at_first, at_second, goes_on as onwards, goes_aside as aside}
 use Rattle.sap_translate.specs.relation.Counts.{is_control}
@@ -22,15 +22,15 @@ use Rattle.sap_translate.specs.relation.Names.{state_name}
 use Rattle.std.proofs.lemmas.List.{length-append}
 use Rattle.std.proofs.lemmas.Option.{slice_get_within}
 use Rattle.sap_back.proofs.Changes.{Comes, changed, control_or_user, got_below}
-use Rattle.sap_back.proofs.owners.Inputs.{get-append_left, get_last}
+use Rattle.sap_translate.proofs.Shared.Lookups.{get-append_left, get_last, get-set_same, get-set_other, only_member}
 use Rattle.sap_back.proofs.Effects.{Gets, Keeps, Trades}
-use Rattle.sap_back.proofs.owners.Facts.{eq_true, eq_self, names_apart}
-use Rattle.sap_back.proofs.owners.Lookups.{get-set_same, get-set_other, only_member}
-use Rattle.sap_back.proofs.owners.Owner.{first, second, of_two}
-use Rattle.sap_back.proofs.owners.Standing.{state_name_same}
-use Rattle.sap_back.proofs.owners.Takings.{first_gone, first_there, second_there, length_set, takes_kept, takes_later, takes_length}
-use Rattle.sap_back.specs.Followed.{Seated}
-use Rattle.sap_back.specs.Tables.{Tables, AreTables, IsPending, come, with_thread, with_known, waiting}
+use Rattle.sap_translate.proofs.Shared.Facts.{eq_true, eq_self, names_apart}
+use Rattle.sap_translate.proofs.Shared.Owners.{first, second, of_two}
+use Rattle.sap_translate.proofs.Shared.Names.{state_name_same}
+use Rattle.sap_back.proofs.Takings.{first_gone, first_there, second_there, length_set, takes_kept, takes_later, takes_length}
+use Rattle.sap_back.specs.Followed.{SeatedByFact}
+use Rattle.sap_process_lines.specs.Tables.{ProcessTables, come, with_thread, with_known, waiting}
+use Rattle.sap_back.specs.Tables.{AreProcessTables, IsPending}
 
 -- lists
 
@@ -142,7 +142,7 @@ is_born a b body e =
     let z : true ≡ false = sym b ∙ ap IsBorn same in
     cc
 
-module _ (g : Sig) (agents : List (Option Agent)) (pending : Option Tree) (c : Config) (es : List Tree) (s : RuleState) (tables : Tables) (old : AreTables agents pending c es s tables) where
+module _ (g : Sig) (agents : List (Option Agent)) (pending : Option Tree) (c : Config) (es : List Tree) (s : RuleState) (tables : ProcessTables) (old : AreProcessTables agents pending c es s tables) where
   -- facts of control that stay stand for their threads
   abbrev pub Stand : Pile → List (Option Agent) → Type 0
   Stand rest next = (k t : ℕ) (f : Fact) → is_control f ≡ true → slice_get rest k ≡ Some (Some f) → slice_get tables.facts k ≡ Some t → (a : Agent) × (slice_get next t ≡ Some (Some a)) × Member f (stands_as a)
@@ -186,12 +186,12 @@ module _ (g : Sig) (agents : List (Option Agent)) (pending : Option Tree) (c : C
       let x = got_below s.known k (omega arith) in
       longer e x.0 (old.entries k e i ∙ x.1) ∙ sym x.1
 
-  module _ (next : List (Option Agent)) (later : Option Tree) (d : Config) (fs : List Tree) (z : RuleState) (behind : Tables) where
+  module _ (next : List (Option Agent)) (later : Option Tree) (d : Config) (fs : List Tree) (z : RuleState) (behind : ProcessTables) where
     -- where no fact of the process comes or goes
     pub plain : (rest : Pile) (right : List Fact) (ns : List ℕ) → z.facts ≡ adds rest right → behind.facts ≡ tables.facts ++ ns → Kept rest → length rest ≡ length s.facts
         → AllZip (Comes agents next c d fs) right ns → Once right → Reserved right → Stand rest next → Born next → d.facts ≡ c.facts → behind.piled ≡ tables.piled
         → Longer fs → ((k e : ℕ) → slice_get behind.entries k ≡ Some e → slice_get fs e ≡ slice_get z.known k) → length behind.entries ≡ length z.known
-        → IsPending fs later behind.pending → behind.threads ≡ length next → behind.known ≡ length fs → AreTables next later d fs z behind
+        → IsPending fs later behind.pending → behind.threads ≡ length next → behind.known ≡ length fs → AreProcessTables next later d fs z behind
     plain rest right ns facts numbered kept size comes once reserved stand born same piled longer entries all_entries waits threads known = changed agents pending c es s tables old next later d fs z behind (record {
       rest = rest;
       right = right;
@@ -217,7 +217,7 @@ module _ (g : Sig) (agents : List (Option Agent)) (pending : Option Tree) (c : C
 
     -- and the rules trade facts for others
     traded : (ks : List ℕ) (left right : List Fact) (ns : List ℕ) → (t : Trades s z ks left right) → behind.facts ≡ tables.facts ++ ns → behind.entries ≡ tables.entries → behind.piled ≡ tables.piled
-        → AllZip (Comes agents next c d fs) right ns → Once right → Reserved right → Stand t.rest next → Born next → d.facts ≡ c.facts → Longer fs → IsPending fs later behind.pending → behind.threads ≡ length next → behind.known ≡ length fs → AreTables next later d fs z behind
+        → AllZip (Comes agents next c d fs) right ns → Once right → Reserved right → Stand t.rest next → Born next → d.facts ≡ c.facts → Longer fs → IsPending fs later behind.pending → behind.threads ≡ length next → behind.known ≡ length fs → AreProcessTables next later d fs z behind
     traded ks left right ns t numbered same_entries piled comes once reserved stand born same longer waits threads known =
         let terms : z.known ≡ s.known = ap (λ (x : RuleState). x.known) t.becomes in
         plain t.rest right ns (ap (λ (x : RuleState). x.facts) t.becomes) numbered (takes_kept t.takes) (takes_length t.takes) comes once reserved stand born same piled longer
@@ -243,7 +243,7 @@ module _ (g : Sig) (agents : List (Option Agent)) (pending : Option Tree) (c : C
   stand_push rest base a stand k t f control e n = let h = stand k t f control e n in (h.0, get-append_left base (Some a ∷ []) t (Some h.0) h.1, h.2)
 
   -- the fact that a running thread stood for is gone
-  seat_gone : (t k : ℕ) (js : List ℕ) (path : List ℕ) (env : Env) (body : Proc) (left : List Fact) {rest : Pile} → Seated agents s tables t k path env body → Takes s.facts (k ∷ js) (state_fact path (values env) ∷ left) rest
+  seat_gone : (t k : ℕ) (js : List ℕ) (path : List ℕ) (env : Env) (body : Proc) (left : List Fact) {rest : Pile} → SeatedByFact agents s tables t k path env body → Takes s.facts (k ∷ js) (state_fact path (values env) ∷ left) rest
       → (j : ℕ) (f : Fact) (a : Agent) → is_control f ≡ true → slice_get rest j ≡ Some (Some f) → slice_get tables.facts j ≡ Some t → slice_get agents t ≡ Some (Some a) → Member f (stands_as a) → ⊥
   seat_gone t k js path env body left {rest = rest} seated takes j f a control e n is m =
       let agent : a ≡ running path env body = some_agent _ _ (sym is ∙ seated.stands.thread) in
@@ -252,7 +252,7 @@ module _ (g : Sig) (agents : List (Option Agent)) (pending : Option Tree) (c : C
       first_gone takes refl f (ap (λ i. slice_get rest i) (sym number) ∙ e)
 
   -- all facts stand for their threads once a running thread is something else
-  pub stand_moved : (t k : ℕ) (js : List ℕ) (path : List ℕ) (env : Env) (body : Proc) (left : List Fact) (rest : Pile) (o : Option Agent) → Seated agents s tables t k path env body → Takes s.facts (k ∷ js) (state_fact path (values env) ∷ left) rest → Stand rest (slice_set agents t o)
+  pub stand_moved : (t k : ℕ) (js : List ℕ) (path : List ℕ) (env : Env) (body : Proc) (left : List Fact) (rest : Pile) (o : Option Agent) → SeatedByFact agents s tables t k path env body → Takes s.facts (k ∷ js) (state_fact path (values env) ∷ left) rest → Stand rest (slice_set agents t o)
   stand_moved t k js path env body left rest o seated takes =
       stand_step rest agents (slice_set agents t o) t (stand_old rest (takes_kept takes)) (set_others agents t o)
       (λ j f a control e n is m. absurd (seat_gone t k js path env body left seated takes j f a control e n is m))
@@ -266,8 +266,8 @@ module _ (g : Sig) (agents : List (Option Agent)) (pending : Option Tree) (c : C
 
   module _ (z : RuleState) (d : Config) (fs : List Tree) where
     -- a running thread is something else, that stands as one fact
-    pub moved : (t k : ℕ) (js : List ℕ) (path : List ℕ) (env : Env) (body : Proc) (left : List Fact) (to : Agent) (f : Fact) → Seated agents s tables t k path env body → Trades s z (k ∷ js) (state_fact path (values env) ∷ left) (f ∷ []) → Keeps c es d fs
-        → IsBorn to ≡ true → Member f (stands_as to) → is_control f ≡ true → (f.name ≡ state_name path → ⊥) → (later : Option Tree) (n : Option ℕ) → IsPending es later n → AreTables (slice_set agents t (Some to)) later d fs z (waiting (come tables (t ∷ [])) n)
+    pub moved : (t k : ℕ) (js : List ℕ) (path : List ℕ) (env : Env) (body : Proc) (left : List Fact) (to : Agent) (f : Fact) → SeatedByFact agents s tables t k path env body → Trades s z (k ∷ js) (state_fact path (values env) ∷ left) (f ∷ []) → Keeps c es d fs
+        → IsBorn to ≡ true → Member f (stands_as to) → is_control f ≡ true → (f.name ≡ state_name path → ⊥) → (later : Option Tree) (n : Option ℕ) → IsPending es later n → AreProcessTables (slice_set agents t (Some to)) later d fs z (waiting (come tables (t ∷ [])) n)
     moved t k js path env body left to f seated trades keeps born stands control other later n waits =
         let next = slice_set agents t (Some to) in
         let longer = same_longer es fs keeps.entries in
@@ -278,23 +278,23 @@ module _ (g : Sig) (agents : List (Option Agent)) (pending : Option Tree) (c : C
         (old.threads ∙ sym (length_set agents t (Some to))) (old.known ∙ ap (λ (xs : List Tree). length xs) (sym keeps.entries))
 
     -- it goes on at its first child
-    pub goes_first : (t k : ℕ) (js : List ℕ) (path : List ℕ) (env wider : Env) (body p : Proc) (left : List Fact) → Seated agents s tables t k path env body → Trades s z (k ∷ js) (state_fact path (values env) ∷ left) (at_first path wider ∷ []) → Keeps c es d fs
-        → (later : Option Tree) (n : Option ℕ) → IsPending es later n → AreTables (onwards agents t path wider p) later d fs z (waiting (come tables (t ∷ [])) n)
+    pub goes_first : (t k : ℕ) (js : List ℕ) (path : List ℕ) (env wider : Env) (body p : Proc) (left : List Fact) → SeatedByFact agents s tables t k path env body → Trades s z (k ∷ js) (state_fact path (values env) ∷ left) (at_first path wider ∷ []) → Keeps c es d fs
+        → (later : Option Tree) (n : Option ℕ) → IsPending es later n → AreProcessTables (onwards agents t path wider p) later d fs z (waiting (come tables (t ∷ [])) n)
     goes_first t k js path env wider body p left seated trades keeps later n waits =
         moved t k js path env body left (running (first_of path) wider p) (at_first path wider) seated trades keeps refl Member.here refl (λ e. longer_path path 1 (state_name_same (first_of path) path e)) later n waits
 
     -- or at its second
-    pub goes_second : (t k : ℕ) (js : List ℕ) (path : List ℕ) (env wider : Env) (body p : Proc) (left : List Fact) → Seated agents s tables t k path env body → Trades s z (k ∷ js) (state_fact path (values env) ∷ left) (at_second path wider ∷ []) → Keeps c es d fs
-        → (later : Option Tree) (n : Option ℕ) → IsPending es later n → AreTables (aside agents t path wider p) later d fs z (waiting (come tables (t ∷ [])) n)
+    pub goes_second : (t k : ℕ) (js : List ℕ) (path : List ℕ) (env wider : Env) (body p : Proc) (left : List Fact) → SeatedByFact agents s tables t k path env body → Trades s z (k ∷ js) (state_fact path (values env) ∷ left) (at_second path wider ∷ []) → Keeps c es d fs
+        → (later : Option Tree) (n : Option ℕ) → IsPending es later n → AreProcessTables (aside agents t path wider p) later d fs z (waiting (come tables (t ∷ [])) n)
     goes_second t k js path env wider body p left seated trades keeps later n waits =
         moved t k js path env body left (running (second_of path) wider p) (at_second path wider) seated trades keeps refl Member.here refl (λ e. longer_path path 2 (state_name_same (second_of path) path e)) later n waits
 
-    pub starts_copies : (t k : ℕ) (path : List ℕ) (env : Env) (p : Proc) → Seated agents s tables t k path env (replicated p) → Trades s z (k ∷ []) (state_fact path (values env) ∷ []) (copies_fact path (values env) ∷ []) → Keeps c es d fs
-        → AreTables (slice_set agents t (Some (copying path env p))) pending d fs z (come tables (t ∷ []))
+    pub starts_copies : (t k : ℕ) (path : List ℕ) (env : Env) (p : Proc) → SeatedByFact agents s tables t k path env (replicated p) → Trades s z (k ∷ []) (state_fact path (values env) ∷ []) (copies_fact path (values env) ∷ []) → Keeps c es d fs
+        → AreProcessTables (slice_set agents t (Some (copying path env p))) pending d fs z (come tables (t ∷ []))
     starts_copies t k path env p seated trades keeps =
         moved t k [] path env (replicated p) [] (copying path env p) (copies_fact path (values env)) seated trades keeps refl Member.here refl (λ e. names_apart (copies_fact path (values env)).name (state_name path) refl e) pending tables.pending old.waits
 
-    pub ends : (t k : ℕ) (path : List ℕ) (env : Env) (body : Proc) → Seated agents s tables t k path env body → Trades s z (k ∷ []) (state_fact path (values env) ∷ []) [] → Keeps c es d fs → AreTables (slice_set agents t None) pending d fs z tables
+    pub ends : (t k : ℕ) (path : List ℕ) (env : Env) (body : Proc) → SeatedByFact agents s tables t k path env body → Trades s z (k ∷ []) (state_fact path (values env) ∷ []) [] → Keeps c es d fs → AreProcessTables (slice_set agents t None) pending d fs z tables
     ends t k path env body seated trades keeps =
         let longer = same_longer es fs keeps.entries in
         traded (slice_set agents t None) pending d fs z tables (k ∷ []) (state_fact path (values env) ∷ []) [] [] trades (sym (append-nil tables.facts)) refl refl tt
@@ -303,8 +303,8 @@ module _ (g : Sig) (agents : List (Option Agent)) (pending : Option Tree) (c : C
         (old.threads ∙ sym (length_set agents t None)) (old.known ∙ ap (λ (xs : List Tree). length xs) (sym keeps.entries))
 
     -- it sends, and goes on
-    pub sends_first : (t k : ℕ) (js : List ℕ) (path : List ℕ) (env : Env) (body p : Proc) (left : List Fact) (x : Tree) → Seated agents s tables t k path env body → Trades s z (k ∷ js) (state_fact path (values env) ∷ left) (out_fact x ∷ at_first path env ∷ []) → Gets c es d fs x
-        → (later : Option Tree) (n : Option ℕ) → IsPending es later n → AreTables (onwards agents t path env p) later d fs z (waiting (with_known (come tables (tables.known ∷ t ∷ []))) n)
+    pub sends_first : (t k : ℕ) (js : List ℕ) (path : List ℕ) (env : Env) (body p : Proc) (left : List Fact) (x : Tree) → SeatedByFact agents s tables t k path env body → Trades s z (k ∷ js) (state_fact path (values env) ∷ left) (out_fact x ∷ at_first path env ∷ []) → Gets c es d fs x
+        → (later : Option Tree) (n : Option ℕ) → IsPending es later n → AreProcessTables (onwards agents t path env p) later d fs z (waiting (with_known (come tables (tables.known ∷ t ∷ []))) n)
     sends_first t k js path env body p left x seated trades gets later n waits =
         let to = running (first_of path) env p in
         let longer = more_longer es fs x gets.entries in
@@ -320,8 +320,8 @@ module _ (g : Sig) (agents : List (Option Agent)) (pending : Option Tree) (c : C
         one_more e = let h : length fs ≡ length (es ++ x ∷ []) = ap (λ (xs : List Tree). length xs) gets.entries in let k = length-append es (x ∷ []) in omega arith
 
     -- it becomes two
-    pub splits : (t k : ℕ) (path : List ℕ) (env : Env) (body p q : Proc) → Seated agents s tables t k path env body → Trades s z (k ∷ []) (state_fact path (values env) ∷ []) (at_first path env ∷ at_second path env ∷ []) → Keeps c es d fs
-        → AreTables (onwards agents t path env p ++ Some (running (second_of path) env q) ∷ []) pending d fs z (with_thread (come tables (t ∷ tables.threads ∷ [])))
+    pub splits : (t k : ℕ) (path : List ℕ) (env : Env) (body p q : Proc) → SeatedByFact agents s tables t k path env body → Trades s z (k ∷ []) (state_fact path (values env) ∷ []) (at_first path env ∷ at_second path env ∷ []) → Keeps c es d fs
+        → AreProcessTables (onwards agents t path env p ++ Some (running (second_of path) env q) ∷ []) pending d fs z (with_thread (come tables (t ∷ tables.threads ∷ [])))
     splits t k path env body p q seated trades keeps =
         let one = running (first_of path) env p in
         let two = running (second_of path) env q in
@@ -343,7 +343,7 @@ module _ (g : Sig) (agents : List (Option Agent)) (pending : Option Tree) (c : C
 
     -- a replication has one copy more
     pub copies : (k : ℕ) (path : List ℕ) (env : Env) (p : Proc) → Trades s z (k ∷ []) (copies_fact path (values env) ∷ []) (at_first path env ∷ []) → Keeps c es d fs
-        → AreTables (agents ++ Some (running (first_of path) env p) ∷ []) pending d fs z (with_thread (come tables (tables.threads ∷ [])))
+        → AreProcessTables (agents ++ Some (running (first_of path) env p) ∷ []) pending d fs z (with_thread (come tables (tables.threads ∷ [])))
     copies k path env p trades keeps =
         let to = running (first_of path) env p in
         let longer = same_longer es fs keeps.entries in
@@ -358,7 +358,7 @@ module _ (g : Sig) (agents : List (Option Agent)) (pending : Option Tree) (c : C
         one_more to = let k = length-append agents (Some to ∷ []) in let h = old.threads in omega arith
 
     -- the rules start
-    pub starts : (t : ℕ) (body : Proc) → slice_get agents t ≡ Some (Some (unborn body)) → Trades s z [] [] (state_fact [] [] ∷ []) → Keeps c es d fs → AreTables (slice_set agents t (Some (running [] no_env body))) pending d fs z (come tables (t ∷ []))
+    pub starts : (t : ℕ) (body : Proc) → slice_get agents t ≡ Some (Some (unborn body)) → Trades s z [] [] (state_fact [] [] ∷ []) → Keeps c es d fs → AreProcessTables (slice_set agents t (Some (running [] no_env body))) pending d fs z (come tables (t ∷ []))
     starts t body is trades keeps =
         let to = running [] no_env body in
         let longer = same_longer es fs keeps.entries in
@@ -370,9 +370,9 @@ module _ (g : Sig) (agents : List (Option Agent)) (pending : Option Tree) (c : C
         (old.threads ∙ sym (length_set agents t (Some to))) (old.known ∙ ap (λ (xs : List Tree). length xs) (sym keeps.entries))
 
     -- a message comes under way
-    pub sends_message : (t k j : ℕ) (path : List ℕ) (env : Env) (body : Proc) (m n x v : Tree) (p : Proc) (i : ℕ) (o : Fact) → Seated agents s tables t k path env body
+    pub sends_message : (t k j : ℕ) (path : List ℕ) (env : Env) (body : Proc) (m n x v : Tree) (p : Proc) (i : ℕ) (o : Fact) → SeatedByFact agents s tables t k path env body
         → Trades s z (k ∷ j ∷ []) (state_fact path (values env) ∷ o ∷ []) (msg_fact (fresh i) x v ∷ waits_fact path (values env ++ fresh i ∷ []) ∷ []) → Keeps c es d fs
-        → AreTables (slice_set agents t (Some (awaiting path env m n x v p i))) pending d fs z (come tables (t ∷ t ∷ []))
+        → AreProcessTables (slice_set agents t (Some (awaiting path env m n x v p i))) pending d fs z (come tables (t ∷ t ∷ []))
     sends_message t k j path env body m n x v p i o seated trades keeps =
         let to = awaiting path env m n x v p i in
         let msg = msg_fact (fresh i) x v in
@@ -392,7 +392,7 @@ module _ (g : Sig) (agents : List (Option Agent)) (pending : Option Tree) (c : C
     -- its sender goes on
     pub acknowledged : (t k j n : ℕ) (path : List ℕ) (env : Env) (m u : Tree) (p : Proc) → slice_get agents t ≡ Some (Some (received path env m u p n)) → slice_get tables.facts k ≡ Some t → slice_get tables.facts j ≡ Some t
         → Trades s z (k ∷ j ∷ []) (waits_fact path (values env ++ fresh n ∷ []) ∷ ack_fact (fresh n) ∷ []) (at_first path env ∷ []) → Keeps c es d fs
-        → AreTables (onwards agents t path env p) pending d fs z (come tables (t ∷ []))
+        → AreProcessTables (onwards agents t path env p) pending d fs z (come tables (t ∷ []))
     acknowledged t k j n path env m u p is by_k by_j trades keeps =
         let from = received path env m u p n in
         let to = running (first_of path) env p in
@@ -426,9 +426,9 @@ module _ (g : Sig) (agents : List (Option Agent)) (pending : Option Tree) (c : C
         ]
 
     -- the sender of a message and a thread meet
-    pub meets : (a t k j n : ℕ) (at path : List ℕ) (other env wider : Env) (m u x v : Tree) (p q body : Proc) → slice_get agents a ≡ Some (Some (awaiting at other m u x v p n)) → slice_get tables.facts j ≡ Some a → Seated agents s tables t k path env body
+    pub meets : (a t k j n : ℕ) (at path : List ℕ) (other env wider : Env) (m u x v : Tree) (p q body : Proc) → slice_get agents a ≡ Some (Some (awaiting at other m u x v p n)) → slice_get tables.facts j ≡ Some a → SeatedByFact agents s tables t k path env body
         → Trades s z (k ∷ j ∷ []) (state_fact path (values env) ∷ msg_fact (fresh n) x v ∷ []) (ack_fact (fresh n) ∷ at_first path wider ∷ []) → Keeps c es d fs
-        → AreTables (onwards (slice_set agents a (Some (received at other m u p n))) t path wider q) pending d fs z (come tables (a ∷ t ∷ []))
+        → AreProcessTables (onwards (slice_set agents a (Some (received at other m u p n))) t path wider q) pending d fs z (come tables (a ∷ t ∷ []))
     meets a t k j n at path other env wider m u x v p q body is by_j seated trades keeps =
         let longer = same_longer es fs keeps.entries in
         traded next pending d fs z (come tables (a ∷ t ∷ [])) (k ∷ j ∷ []) (state_fact path (values env) ∷ msg ∷ []) (ack ∷ at_first path wider ∷ []) (a ∷ t ∷ []) trades refl refl refl (

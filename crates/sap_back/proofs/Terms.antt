@@ -23,8 +23,8 @@ use Rattle.sap_lines.specs.Lines.{EvaluateWithin}
 use Rattle.sap_steps.specs.Lines.{IsEvaluated, rule_terms}
 use Rattle.sap_translate.specs.Members.{Member}
 use Rattle.sap_translate.specs.Scoped.{Within, EachWithin, AllWithin, FactsWithin}
-use Rattle.sap_back.proofs.owners.Facts.{made}
-use Rattle.sap_back.proofs.owners.Lookups.{member_left, member_right}
+use Rattle.sap_translate.proofs.Shared.Facts.{made}
+use Rattle.sap_translate.proofs.Shared.Lookups.{member_left, member_right}
 
 pub contains : {A : Type 0} {x : A} {xs : List A} → Member x xs → Contains xs x
 contains {x = x} Member.here = (0, omega arith, refl)

@@ -11,14 +11,14 @@ use Rattle.sap_back.specs.Converted.{IsAdmittedRun, IsFirstBroken, IsFirstRefuse
 
 -- the lines are a run that counts, or one of them is the first that is refused, or one of them is the first behind which a restriction is
 -- false
-abbrev pub HasSomeAnswer : Sig → Proc → List RStep → Type 0
-HasSomeAnswer g start rule_lines =
+abbrev pub IsAdmittedRefusedOrBroken : Sig → Proc → List RStep → Type 0
+IsAdmittedRefusedOrBroken g start rule_lines =
     ((s : RuleState) × (full : Trace) × IsAdmittedRun g start rule_lines s full)
     ⊎ (((number : ℕ) × (fault : RFault) × IsFirstRefusedOfRules g start rule_lines number fault) ⊎ ((number : ℕ) × (which : Which) × IsFirstBroken g start rule_lines number which))
 
 -- one of these holds, no two do, and it holds in one way
 pub record HaveOneAnswer (g : Sig) (start : Proc) (rule_lines : List RStep) : Type 0 where
-  pub some : HasSomeAnswer g start rule_lines
+  pub some : IsAdmittedRefusedOrBroken g start rule_lines
   pub one_run : (s z : RuleState) (full tr : Trace) → IsAdmittedRun g start rule_lines s full → IsAdmittedRun g start rule_lines z tr → (s ≡ z) × (full ≡ tr)
   pub counted_or_refused : (s : RuleState) (full : Trace) (number : ℕ) (fault : RFault) → IsAdmittedRun g start rule_lines s full → IsFirstRefusedOfRules g start rule_lines number fault → ⊥
   pub counted_or_broken : (s : RuleState) (full : Trace) (number : ℕ) (which : Which) → IsAdmittedRun g start rule_lines s full → IsFirstBroken g start rule_lines number which → ⊥

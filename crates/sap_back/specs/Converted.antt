@@ -16,10 +16,10 @@ use Rattle.sap_steps.specs.Lines.{IsLine}
 use Rattle.sap_steps.specs.Runs.{IsLegalRun}
 use Rattle.sap_steps.specs.declared.fault.RFault.{RFault}
 use Rattle.sap_steps.specs.declared.fault.RFault.TheVariants.{Mem}
-use Rattle.sap_translate.specs.Templates.{rules_of}
+use Rattle.sap_templates.specs.Templates.{rules_of}
 use Rattle.sap_translate.specs.LineCounts.{back_count}
-use Rattle.sap_back.specs.LinesFor.{StandInTurn}
-use Rattle.sap_back.specs.Opposite.{IsOpposite}
+use Rattle.sap_back.specs.LinesFor.{ProcessLinesStandInTurn}
+use Rattle.sap_back.specs.Opposite.{IsOppositeProcessRun}
 
 -- the lines are a legal run of the rules of the process within the limit, which leads to the state, and its full trace is admitted
 pub record IsAdmittedRun (g : Sig) (start : Proc) (rule_lines : List RStep) (s : RuleState)
@@ -28,16 +28,16 @@ pub record IsAdmittedRun (g : Sig) (start : Proc) (rule_lines : List RStep) (s :
   pub admitted : IsAdmitted g full
 
 -- the lines are such a run, and these of the process are opposite to them
-pub record IsConverted (g : Sig) (start : Proc) (rule_lines : List RStep)
+pub record IsConvertedToProcess (g : Sig) (start : Proc) (rule_lines : List RStep)
     (lines : List PStep) : Type 0 where
   pub state : RuleState
   pub full : Trace
   pub counted : IsAdmittedRun g start rule_lines state full
-  pub opposite : IsOpposite g start rule_lines state full lines
+  pub opposite : IsOppositeProcessRun g start rule_lines state full lines
   -- there are exactly so many
   pub count : length lines ≡ back_count rule_lines
   -- they stand in turn, and so it is told where a `know` stands
-  pub turns : StandInTurn rule_lines full lines
+  pub turns : ProcessLinesStandInTurn rule_lines full lines
 
 -- the lines before the one with this number, from 1, are such a run, and that one is refused for this cause
 pub record IsFirstRefusedOfRules (g : Sig) (start : Proc) (rule_lines : List RStep) (number : ℕ)

@@ -14,10 +14,10 @@ use Rattle.sap_runs.specs.declared.rule_step.RStep.{RStep}
 use Rattle.sap_lines.specs.Runs.{IsLegalProcessRun}
 use Rattle.sap_steps.specs.Marks.{marks}
 use Rattle.sap_steps.specs.Runs.{IsLegalRun}
-use Rattle.sap_translate.specs.Templates.{rules_of}
+use Rattle.sap_templates.specs.Templates.{rules_of}
 
 -- These lines of the process are opposite to the lines of its rules, which lead to the state and have the full trace.
-pub record IsOpposite (g : Sig) (start : Proc) (rule_lines : List RStep) (s : RuleState)
+pub record IsOppositeProcessRun (g : Sig) (start : Proc) (rule_lines : List RStep) (s : RuleState)
     (full : Trace) (lines : List PStep) : Type 0 where
   pub config : Config
   pub entries : List Tree
@@ -29,8 +29,8 @@ pub record IsOpposite (g : Sig) (start : Proc) (rule_lines : List RStep) (s : Ru
   pub short : length lines ≤ length rule_lines
 
 -- each legal run of the rules whose full trace is admitted has lines of the process opposite
-abbrev pub HasOpposites : Sig → Proc → Type 0
-HasOpposites g start =
+abbrev pub HasOppositeProcessRuns : Sig → Proc → Type 0
+HasOppositeProcessRuns g start =
     (rule_lines : List RStep) (s : RuleState) (full : Trace)
     → IsLegalRun g (rules_of start) HasFewNodes rule_lines s full → IsAdmitted g full
-    → (lines : List PStep) × IsOpposite g start rule_lines s full lines
+    → (lines : List PStep) × IsOppositeProcessRun g start rule_lines s full lines

@@ -3,9 +3,9 @@ ghost use Rattle.std.specs.Prelude.{All, ℕ, List, [], ◌∷◌, Option, Some,
 ghost use Rattle.sap_back.specs.Along.{BeginsAlong};
 ghost use Rattle.sap_back.specs.Followed.{BeginsTabled, EndsTabled, LinesAreFollowed};
 ghost use Rattle.sap_back.specs.LineExamples.{six_rule_lines, six_shown, their_lines};
-ghost use Rattle.sap_back.specs.LinesFor.{uses, AreLinesFor, AreLinesForAll, StandInTurn};
+ghost use Rattle.sap_back.specs.LinesFor.{uses, AreProcessLinesFor, AreProcessLinesForAll, ProcessLinesStandInTurn};
 ghost use Rattle.sap_back.specs.NamedIn.{IsNamedIn};
-ghost use Rattle.sap_back.specs.Opposite.{HasOpposites};
+ghost use Rattle.sap_back.specs.Opposite.{HasOppositeProcessRuns};
 ghost use Rattle.sap_locks.specs.Annotation.{IsAnnotation};
 ghost use Rattle.sap_process.specs.Proc.{Proc, node_count};
 ghost use Rattle.sap_process.specs.Ready.{IsReady};
@@ -20,7 +20,7 @@ ghost use Rattle.sap_terms.specs.declared.fact.Fact.{Fact};
 ghost use Rattle.sap_terms.specs.Equations.{pair_name};
 ghost use Rattle.sap_terms.specs.Signature.{HoldsBuiltins, Sig, arity_of};
 ghost use Rattle.sap_back.specs.Answers.{HaveOneAnswer};
-ghost use Rattle.sap_translate.specs.Templates.{rules_of};
+ghost use Rattle.sap_templates.specs.Templates.{rules_of};
 ghost use Rattle.sap_back.specs.code.Replayed.{ShowOneReserved};
 
 use sap_locks::annotations_are_ready;
@@ -39,8 +39,8 @@ use sap_translate::{
 /// A law: before the first line of rules no line of the process goes along, and from there on each line of the rules that is
 /// possible within the limit on terms, and behind which the full trace is admitted, is followed, where the process is the annotation
 /// of one that is ready and has fewer than 2^64 places, over a signature that holds what its builtins declare: by the lines of
-/// the process that `IsWritten` tells from it and from tables, which say what the facts and the entries of the rules are in the
-/// process. There are tables before the first line, and `IsWritten` tells those behind each. A K event is left pending until an
+/// the process that `IsWrittenAsProcess` tells from it and from tables, which say what the facts and the entries of the rules are in the
+/// process. There are tables before the first line, and `IsWrittenAsProcess` tells those behind each. A K event is left pending until an
 /// input takes it, or another, an event or the end has it written; at the end it is.
 pub fn lines_are_followed()
     ensures begins { (g : Sig) (p q : Proc) → HoldsBuiltins g → IsReady g p → node_count p < 2 ^ 64 → IsAnnotation p q
@@ -83,7 +83,7 @@ pub(crate) fn files_are_replayed()
 /// marks, and leave the adversary with all that it knows there; there are no more of them.
 pub fn legal_runs_have_runs_opposite()
     ensures { (g : Sig) (p q : Proc) → HoldsBuiltins g → IsReady g p → node_count p < 2 ^ 64 → IsAnnotation p q
-        → HasOpposites g q }
+        → HasOppositeProcessRuns g q }
 {
     rule_steps_are_followed();
     rules_show_the_process();
@@ -124,7 +124,7 @@ pub fn rule_runs_have_one_answer()
 /// one applies, the bindings of an embedded rule.
 pub fn names_stand_in_lines()
     ensures { (rule_lines : List RStep) (full : Trace) (lines : List PStep)
-        → StandInTurn rule_lines full lines → All (IsNamedIn rule_lines) lines }
+        → ProcessLinesStandInTurn rule_lines full lines → All (IsNamedIn rule_lines) lines }
 {}
 
 /// A law: lines tried by hand. For `pub 'a'` alone stands the line that writes down `a`, and no other, so no name with a quote and a
@@ -133,24 +133,24 @@ pub fn names_stand_in_lines()
 /// which takes nothing where nothing is pending.
 pub fn turns_by_hand()
     ensures alone { (acts : List Fact) (lines : List PStep) (last : Option ℕ)
-        → AreLinesForAll None (PublicLine (codes "a") ∷ []) (acts ∷ []) lines last
+        → AreProcessLinesForAll None (PublicLine (codes "a") ∷ []) (acts ∷ []) lines last
         → lines ≡ line.Public (codes "a") ∷ [] }
     ensures in_order { (acts others : List Fact) (lines : List PStep) (last : Option ℕ)
-        → AreLinesForAll None (PublicLine (codes "a") ∷ PublicLine (codes "b") ∷ []) (acts ∷ others ∷ []) lines last
+        → AreProcessLinesForAll None (PublicLine (codes "a") ∷ PublicLine (codes "b") ∷ []) (acts ∷ others ∷ []) lines last
         → lines ≡ line.Public (codes "a") ∷ line.Public (codes "b") ∷ [] }
     ensures symbol { (k next : Option ℕ) (acts : List Fact) (lines : List PStep)
-        → AreLinesFor k (ApplyLine (codes "f") (0 ∷ [])) acts lines next
+        → AreProcessLinesFor k (ApplyLine (codes "f") (0 ∷ [])) acts lines next
         → (entries : List ℕ) × (lines ≡ line.Apply (codes "f") entries ∷ []) }
-    ensures six { StandInTurn six_rule_lines six_shown their_lines }
+    ensures six { ProcessLinesStandInTurn six_rule_lines six_shown their_lines }
     ensures waits { (acts others : List Fact) (lines : List PStep) (last : Option ℕ)
-        → AreLinesForAll None (KnowLine 0 ∷ PublicLine (codes "a") ∷ []) (acts ∷ others ∷ []) lines last
+        → AreProcessLinesForAll None (KnowLine 0 ∷ PublicLine (codes "a") ∷ []) (acts ∷ others ∷ []) lines last
         → (lines ≡ line.Public (codes "a") ∷ []) × ((e : ℕ) × (last ≡ Some e)) }
     ensures shown_next { (acts others : List Fact) (lines : List PStep) (last : Option ℕ)
-        → AreLinesForAll None (KnowLine 0 ∷ KnowLine 1 ∷ []) (acts ∷ others ∷ []) lines last
+        → AreProcessLinesForAll None (KnowLine 0 ∷ KnowLine 1 ∷ []) (acts ∷ others ∷ []) lines last
         → (e : ℕ) × (lines ≡ line.Know e ∷ []) × ((u : ℕ) × (last ≡ Some u)) }
     ensures taken { (acts others : List Fact) (lines : List PStep) (last : Option ℕ)
-        → AreLinesForAll None (KnowLine 0 ∷ uses (codes "In_") [] (0 ∷ 1 ∷ []) [] ∷ []) (acts ∷ others ∷ []) lines last
+        → AreProcessLinesForAll None (KnowLine 0 ∷ uses (codes "In_") [] (0 ∷ 1 ∷ []) [] ∷ []) (acts ∷ others ∷ []) lines last
         → (t e : ℕ) × (lines ≡ line.In t e ∷ []) × (last ≡ None) }
     ensures not_taken { (acts : List Fact) (lines : List PStep) (last : Option ℕ)
-        → AreLinesForAll None (uses (codes "In_") [] (0 ∷ 1 ∷ []) [] ∷ []) (acts ∷ []) lines last → ⊥ }
+        → AreProcessLinesForAll None (uses (codes "In_") [] (0 ∷ 1 ∷ []) [] ∷ []) (acts ∷ []) lines last → ⊥ }
 {}

@@ -2,14 +2,9 @@
 #![tactic(auto)]
 
 mod back_at;
-mod cited;
 mod conversion;
-mod desk;
-mod kind;
-mod knowing;
 mod laws;
 mod replay;
-mod rules;
 
 pub use back_at::BackAt;
 pub use conversion::{rule_trace, to_process};

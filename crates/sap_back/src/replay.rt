@@ -7,7 +7,7 @@ ghost use Rattle.sap_rule.specs.RuleSteps.{empty_state};
 ghost use Rattle.sap_rule.specs.WellMade.{IsWellMade};
 ghost use Rattle.sap_steps.specs.Lines.{IsLine, HasFewNodes};
 ghost use Rattle.sap_terms.specs.Message.{AreMessageFacts};
-ghost use Rattle.sap_translate.specs.Templates.{rules_of};
+ghost use Rattle.sap_templates.specs.Templates.{rules_of};
 ghost use Rattle.sap_back.specs.code.Replayed.{IsKept, IsStopped, IsTakenUp, IsUnkept, ShowOneReserved, stop_at};
 
 use crate::BackAt;
@@ -17,8 +17,8 @@ use sap_restrict::{Admit, Guard};
 use sap_rule::Theory;
 use sap_runs::RStep;
 use sap_steps::{RFault, RuleState};
+use sap_templates::generate;
 use sap_terms::{Copied, FactList, Mem};
-use sap_translate::generate;
 use std::alloc::Global;
 
 /// Where a run of rules stands, and what is kept of its full trace, which counts.

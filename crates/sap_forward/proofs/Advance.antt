@@ -30,7 +30,7 @@ use Rattle.sap_steps.specs.Marks.{marks}
 use Rattle.sap_translate.specs.Members.{Member}
 use Rattle.sap_translate.specs.Opened.{opened}
 use Rattle.sap_translate.specs.Sound.{SoundAt}
-use Rattle.sap_translate.specs.Templates.{rules_of, own_rules}
+use Rattle.sap_templates.specs.Templates.{rules_of, own_rules}
 use Rattle.sap_translate.specs.relation.Agents.{Agent, running, env_of, IsAt}
 use Rattle.sap_translate.specs.relation.Answers.{Answers, StandsBefore, trades}
 use Rattle.sap_translate.specs.relation.Answered.{Case, WhereAtRest}
@@ -39,10 +39,10 @@ use Rattle.sap_translate.specs.relation.ProcessMoves.{ProcessMove}
 use Rattle.sap_translate.specs.relation.RuleMoves as move
 use Rattle.sap_translate.specs.relation.RuleMoves.{RuleMove}
 use Rattle.sap_forward.specs.Answered.{IsAnswered}
-use Rattle.sap_forward.specs.Least.{names_made, not_drawn, numbers_below}
+use Rattle.sap_rule_lines.specs.Least.{names_made, not_drawn, numbers_below}
 use Rattle.sap_forward.specs.Linked.{Linked, EnvWithin, MadeFor}
-use Rattle.sap_forward.specs.Tables.{Tables, AreTables}
-use Rattle.sap_forward.specs.Written.{IsWritten, Seated, moved}
+use Rattle.sap_forward.specs.Tables.{RuleTables, AreRuleTables}
+use Rattle.sap_forward.specs.Written.{IsWrittenAsRules, Seated, moved}
 use Rattle.sap_forward.proofs.Evaluated.{Evaluates, vars_within}
 use Rattle.sap_forward.proofs.Given.{made_join}
 use Rattle.sap_forward.proofs.Lines.{lines_of, used_line, Writes}
@@ -85,7 +85,7 @@ module _ (laws : Laws) (g : Sig) (W : Tree → Type 0) (p q : Proc) (hold : Hold
   pub state_within : (env : Env) (v : List Var) → EnvWithin g W env → ((x : Var) → Member x v → Member x (names env)) → Evaluates g W (filled env) (map variable v)
   state_within env v h inside = vars_within g W (filled env) v (λ x m. subst (λ t. EvaluateWithin g W (t ∷ [])) (sym (laws.variables env x (contains (inside x m)))) (h x (inside x m)))
 
-  module _ (drawn : List ℕ) (agents : List (Option Agent)) (c : Config) (es : List Tree) (tr : Trace) (s : RuleState) (full : Trace) (tables : Tables) (lk : Linked g W q drawn tables agents c es tr s full) where
+  module _ (drawn : List ℕ) (agents : List (Option Agent)) (c : Config) (es : List Tree) (tr : Trace) (s : RuleState) (full : Trace) (tables : RuleTables) (lk : Linked g W q drawn tables agents c es tr s full) where
     -- a law, here
     pub law : (P : Case) → WhereAtRest P → P g q agents c tr s full
     law P h = h g p q hold ready small annotated agents c tr s full lk.rest
@@ -105,7 +105,7 @@ module _ (laws : Laws) (g : Sig) (W : Tree → Type 0) (p q : Proc) (hold : Hold
         → let later : List (Option Agent) = slice_set agents t (Some (running at other after)) in
         Answers g q c tr s full mv label d (move.uses r (k ∷ []) σ ∷ []) (acts ∷ []) (trades s (k ∷ []) (state_fact at (values other) ∷ [])) later
         → Binds g r b σ → ((n : Tree) → IsEvaluated g r σ n → W n) → d.facts ≡ c.facts → d.made ≡ c.made → d.own ≡ c.own → ((x v : Tree) → d.store x ≡ Some v → W v) → marks (acts ∷ []) ≡ ms
-        → IsWritten g drawn agents c tables step (RuleLine r.name (k ∷ []) b ∷ []) later (moved tables t 0)
+        → IsWrittenAsRules g drawn agents c tables step (RuleLine r.name (k ∷ []) b ∷ []) later (moved tables t 0)
         → IsAnswered g W q drawn agents c tables s full step d es (tr ++ shown label) ms
     plain t k path env body sits at other after wide step mv label d r σ b acts ms ans binds within facts made own stored marked written = record {
       lines = RuleLine r.name (k ∷ []) b ∷ [];
@@ -118,7 +118,7 @@ module _ (laws : Laws) (g : Sig) (W : Tree → Type 0) (p q : Proc) (hold : Hold
       linked = record {
         rest = ans.rest;
         known = lk.known;
-        tabled = subst (λ x. AreTables (slice_set agents t (Some (running at other after))) x (adds (slice_set s.facts k None) (next ∷ [])) (moved tables t 0)) (sym facts)
+        tabled = subst (λ x. AreRuleTables (slice_set agents t (Some (running at other after))) x (adds (slice_set s.facts k None) (next ∷ [])) (moved tables t 0)) (sym facts)
             (tables_move agents c.facts s.facts tables lk.tabled t k 0 (adds (slice_set s.facts k None) (next ∷ [])) (running at other after) next sits.number (stay_set s.facts k (Some next ∷ [])) refl
             (let one = length_join (slice_set s.facts k None) (Some next ∷ []) in let two = length_set s.facts k None in omega arith)
             (get_right (slice_set s.facts k None) (Some next ∷ []) 0 (length s.facts + 0) (Some next) refl (let two = length_set s.facts k None in omega arith)));
@@ -144,12 +144,12 @@ module _ (laws : Laws) (g : Sig) (W : Tree → Type 0) (p q : Proc) (hold : Hold
     pub twofold : (t k : ℕ) (path : List ℕ) (env : Env) (body : Proc) → Seated agents tables t k path env body → (at : List ℕ) (other : Env) (after : Proc) → EnvWithin g W other
         → (step : PStep) (mv : ProcessMove) (label : List Fact) (d : Config) (first : RuleMove) (line : RStep) (shown_first : List Fact) (h : Fact) (r : Rule) (σ : Choice) (acts : List Fact) (ms : List Mark) (z : RuleState) (next : ℕ)
         → let later : List (Option Agent) = slice_set agents t (Some (running at other after)) in
-        let behind : Tables = record (moved tables t 1) { next = next } in
+        let behind : RuleTables = record (moved tables t 1) { next = next } in
         Answers g q c tr s full mv label d (first ∷ move.uses r (k ∷ length s.facts ∷ []) σ ∷ []) (shown_first ∷ acts ∷ []) z later
         → z.facts ≡ slice_set (slice_set (s.facts ++ Some h ∷ []) k None) (length s.facts) None ++ Some (state_fact at (values other)) ∷ [] → z.known ≡ es → ((n : ℕ) → Contains z.made n → MadeFor drawn next d n)
         → Writes W g (rules_of q) s first line → open_variables g r ≡ [] → ((n : Tree) → IsEvaluated g r σ n → W n) → d.facts ≡ c.facts → ((x v : Tree) → d.store x ≡ Some v → W v) → marks (shown_first ∷ acts ∷ []) ≡ ms
         → not_drawn drawn (numbers_below next) ≡ not_drawn drawn (numbers_below tables.next) ++ not_drawn drawn (names_made (line ∷ []))
-        → IsWritten g drawn agents c tables step (line ∷ RuleLine r.name (k ∷ tables.count ∷ []) [] ∷ []) later behind
+        → IsWrittenAsRules g drawn agents c tables step (line ∷ RuleLine r.name (k ∷ tables.count ∷ []) [] ∷ []) later behind
         → IsAnswered g W q drawn agents c tables s full step d es (tr ++ shown label) ms
     twofold t k path env body sits at other after wide step mv label d first line shown_first h r σ acts ms z next ans facts_are known made writes none within pile stored marked names written = record {
       lines = line ∷ RuleLine r.name (k ∷ tables.count ∷ []) [] ∷ [];
@@ -163,8 +163,8 @@ module _ (laws : Laws) (g : Sig) (W : Tree → Type 0) (p q : Proc) (hold : Hold
       linked = record {
         rest = ans.rest;
         known = known;
-        tabled = subst (λ x. AreTables (slice_set agents t (Some (running at other after))) x z.facts (record (moved tables t 1) { next = next })) (sym pile)
-            (subst (λ x. AreTables (slice_set agents t (Some (running at other after))) c.facts x (record (moved tables t 1) { next = next })) (sym facts_are) (renamed
+        tabled = subst (λ x. AreRuleTables (slice_set agents t (Some (running at other after))) x z.facts (record (moved tables t 1) { next = next })) (sym pile)
+            (subst (λ x. AreRuleTables (slice_set agents t (Some (running at other after))) c.facts x (record (moved tables t 1) { next = next })) (sym facts_are) (renamed
             (tables_move agents c.facts s.facts tables lk.tabled t k 1 (two_gone ++ Some there_is ∷ []) (running at other after) there_is sits.number stays refl
             (let one = length_join two_gone (Some there_is ∷ []) in let two = gone_length in omega arith)
             (get_right two_gone (Some there_is ∷ []) 0 (length s.facts + 1) (Some there_is) refl (let two = gone_length in omega arith)))));
@@ -190,5 +190,5 @@ module _ (laws : Laws) (g : Sig) (W : Tree → Type 0) (p q : Proc) (hold : Hold
         stays : Stay s.facts k (two_gone ++ Some there_is ∷ [])
         stays j f apart e = get_left two_gone (Some there_is ∷ []) j (Some f) (get_other (slice_set (s.facts ++ Some h ∷ []) k None) (length s.facts) j None (λ i. absurd (let low = slice_get_within s.facts j (Some f) e in omega arith)) ∙ get_other (s.facts ++ Some h ∷ []) k j None apart ∙ get_left s.facts (Some h ∷ []) j (Some f) e)
 
-        renamed : {later : List (Option Agent)} {x : Pile} → AreTables later c.facts x (moved tables t 1) → AreTables later c.facts x (record (moved tables t 1) { next = next })
+        renamed : {later : List (Option Agent)} {x : Pile} → AreRuleTables later c.facts x (moved tables t 1) → AreRuleTables later c.facts x (record (moved tables t 1) { next = next })
         renamed a = record { threads = a.threads; facts = a.facts; apart = a.apart; count = a.count }

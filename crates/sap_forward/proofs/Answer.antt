@@ -38,9 +38,9 @@ use Rattle.sap_translate.specs.relation.Agents.{Agent, running}
 use Rattle.sap_translate.specs.relation.Answers.{term_under, under}
 use Rattle.sap_translate.specs.relation.Envs.{Env}
 use Rattle.sap_forward.specs.Answered.{IsAnswered, Draws}
-use Rattle.sap_forward.specs.Least.{is_among}
+use Rattle.sap_rule_lines.specs.Least.{is_among}
 use Rattle.sap_forward.specs.Linked.{Linked}
-use Rattle.sap_forward.specs.Tables.{Tables}
+use Rattle.sap_forward.specs.Tables.{RuleTables}
 use Rattle.sap_forward.proofs.Control.{ends_here, splits_here, copies_first_here, copies_more_here}
 use Rattle.sap_forward.proofs.Embedded.{embeds_here}
 use Rattle.sap_forward.proofs.Fresh.{makes_name_here, locks_here, names_here}
@@ -53,7 +53,7 @@ use Rattle.sap_forward.proofs.Premises.{Laws}
 use Rattle.sap_forward.proofs.Standing.{Standing, at_place, has_started, standing}
 use Rattle.sap_forward.proofs.Advance.{IsLimit}
 
-module _ (laws : Laws) (g : Sig) (W : Tree → Type 0) (p q : Proc) (hold : HoldsBuiltins g) (ready : IsReady g p) (small : node_count p < 2 ^ 64) (annotated : IsAnnotation p q) (drawn : List ℕ) (agents : List (Option Agent)) (c : Config) (es : List Tree) (tr : Trace) (s : RuleState) (full : Trace) (tables : Tables) (lk : Linked g W q drawn tables agents c es tr s full) (limit : IsLimit g W) (can : CanGiveEach g c es) (exact : MatchesExactly g c es) where
+module _ (laws : Laws) (g : Sig) (W : Tree → Type 0) (p q : Proc) (hold : HoldsBuiltins g) (ready : IsReady g p) (small : node_count p < 2 ^ 64) (annotated : IsAnnotation p q) (drawn : List ℕ) (agents : List (Option Agent)) (c : Config) (es : List Tree) (tr : Trace) (s : RuleState) (full : Trace) (tables : RuleTables) (lk : Linked g W q drawn tables agents c es tr s full) (limit : IsLimit g W) (can : CanGiveEach g c es) (exact : MatchesExactly g c es) where
   abbrev pub Goes : PStep → Config → List Tree → List Fact → List InnerAction → Type 0
   Goes step d fs label inner = IsAnswered g W q drawn agents c tables s full step d fs (tr ++ shown label) (marks_of inner label)
 

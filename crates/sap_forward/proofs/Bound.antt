@@ -30,8 +30,8 @@ use Rattle.sap_calc.specs.Running.{Running, configuration, WouldFind, FindsNothi
 use Rattle.sap_translate.specs.relation.Agents.{Agent, running, process_of}
 use Rattle.sap_translate.specs.relation.Answers.{AtRest, term_under, under}
 use Rattle.sap_translate.specs.relation.Envs.{Env, chosen}
-use Rattle.sap_forward.specs.Tables.{Tables}
-use Rattle.sap_forward.specs.Written.{IsWritten}
+use Rattle.sap_forward.specs.Tables.{RuleTables}
+use Rattle.sap_forward.specs.Written.{IsWrittenAsRules}
 use Rattle.sap_forward.specs.code.Desk.{BindsFound}
 use Rattle.sap_forward.specs.code.Taken.{IsFoundBy}
 use Rattle.sap_forward.proofs.Tabled.{map_get}
@@ -58,7 +58,7 @@ value_of one g c es fs t m x v key w y p q inner label d runs form held (IsProce
     let same : u ≡ w = cc in
     there ∙ same
 
-module _ (one : FormIsOne) (answer : ProcessLinesHaveOneAnswer) (g : Sig) (start : Proc) (drawn : List ℕ) (agents : List (Option Agent)) (tr : Trace) (s : RuleState) (full : Trace) (r : Running) (tables : Tables) (sig : r.sig ≡ g) (exact : MatchesExactly g (configuration r) (terms_of r.known)) (rest : AtRest g start agents (configuration r) tr s full) where
+module _ (one : FormIsOne) (answer : ProcessLinesHaveOneAnswer) (g : Sig) (start : Proc) (drawn : List ℕ) (agents : List (Option Agent)) (tr : Trace) (s : RuleState) (full : Trace) (r : Running) (tables : RuleTables) (sig : r.sig ≡ g) (exact : MatchesExactly g (configuration r) (terms_of r.known)) (rest : AtRest g start agents (configuration r) tr s full) where
   -- what was found before the line is done is the value that the line finds
   found_is : (t : ℕ) (inner : List InnerAction) (label : List Fact) (d : Config) (fs : List Tree) (m x v : Tree) (y : Var) (p q : Proc) (o : Option Term) → Runs (configuration r) t (lookup m y p q) → IsNormalForm (equations g) m x → (configuration r).store x ≡ Some v
       → IsProcessLine g HasFewNodes (configuration r) (terms_of r.known) (line.Found t) inner label d fs → MatchOption o (FindsNothing r t) (λ w. WouldFind r t (tree w)) → option_map tree o ≡ Some v
@@ -68,9 +68,9 @@ module _ (one : FormIsOne) (answer : ProcessLinesHaveOneAnswer) (g : Sig) (start
       ap Some (sym (value_of one g (configuration r) (terms_of r.known) (terms_of r.known) t m x v h.key (tree w) y p q (found h.key (tree w) ∷ []) [] h.after runs form held (subst (λ x. IsProcessLine x HasFewNodes (configuration r) (terms_of r.known) (line.Found t) (found h.key (tree w) ∷ []) [] h.after (terms_of r.known)) sig h.line) refl))
 
   -- so what is written binds it
-  pub binds_found : (step : PStep) (inner : List InnerAction) (label : List Fact) (d : Config) (fs : List Tree) (ls : List RStep) (o : Option Term) (later : List (Option Agent)) (behind : Tables) → IsProcessLine g HasFewNodes (configuration r) (terms_of r.known) step inner label d fs → IsFoundBy r step o
-      → IsWritten g drawn agents (configuration r) tables step ls later behind → BindsFound o step ls
-  binds_found (line.Found t) inner label d fs ls o later behind is h (IsWritten.finds _ k path env m x v y b p q sits form held var term) = λ name ks b2 e.
+  pub binds_found : (step : PStep) (inner : List InnerAction) (label : List Fact) (d : Config) (fs : List Tree) (ls : List RStep) (o : Option Term) (later : List (Option Agent)) (behind : RuleTables) → IsProcessLine g HasFewNodes (configuration r) (terms_of r.known) step inner label d fs → IsFoundBy r step o
+      → IsWrittenAsRules g drawn agents (configuration r) tables step ls later behind → BindsFound o step ls
+  binds_found (line.Found t) inner label d fs ls o later behind is h (IsWrittenAsRules.finds _ k path env m x v y b p q sits form held var term) = λ name ks b2 e.
       let same : b ≡ b2 = cc in
       found_is t inner label d fs (term_under env m) x v y (process_instance (without (chosen env) y) p) (under env q) o (runs_here g start agents (configuration r) tr s full t path env (lookup m y p q) rest sits.thread) form held is (h t refl) ∙ ap Some (sym term ∙ ap (λ (i : Binding). tree i.term) same)
   binds_found step inner label d fs ls o later behind is h w = tt

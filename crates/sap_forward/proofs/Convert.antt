@@ -1,9 +1,10 @@
 -- Each legal run of a process has lines opposite.
 use Rattle.std.proofs.Common.{◌≡◌, ℕ, zero, suc, ◌+◌, ◌<◌, ◌^◌, List, [], ◌∷◌, ◌++◌, Some, refl, sym, ap, ◌∙◌, subst, arith, slice_get, length, true, ◌||◌}
-use Rattle.sap_forward.specs.Answered.{Draws, IsAnswered, StartsLinked, first_tables, first_state}
-use Rattle.sap_forward.proofs.Marked.{marks_join}
+use Rattle.sap_forward.specs.Answered.{Draws, IsAnswered, StartsLinked, first_rule_tables, first_state}
+use Rattle.sap_translate.proofs.Shared.Marked.{marks_join}
 use Rattle.sap_forward.proofs.Lines.{legal_join}
-use Rattle.sap_forward.specs.Opposite.{HasOpposites, IsOpposite, init_line}
+use Rattle.sap_forward.specs.Opposite.{HasOppositeRuleRuns, IsOppositeRuleRun}
+use Rattle.sap_rule_lines.specs.RuleLines.{init_line}
 use Rattle.sap_steps.specs.Runs.{IsLegalRun}
 use Rattle.sap_lines.specs.Lines.{IsProcessLine}
 use Rattle.sap_lines.specs.Runs.{IsLegalProcessRun}
@@ -32,13 +33,13 @@ use Rattle.sap_runs.specs.declared.process_step.PStep.{PStep}
 use Rattle.sap_runs.specs.declared.process_step.PStep.TheVariants as line
 use Rattle.sap_steps.specs.Lines.{IsLine}
 use Rattle.sap_translate.specs.LineCounts.{back_count}
-use Rattle.sap_translate.specs.Templates as rules
-use Rattle.sap_translate.specs.Templates.{rules_of}
+use Rattle.sap_templates.specs.Templates as rules
+use Rattle.sap_templates.specs.Templates.{rules_of}
 use Rattle.sap_translate.specs.relation.Agents.{Agent, running, env_of}
 use Rattle.sap_translate.specs.relation.Answers.{gets}
 use Rattle.sap_translate.specs.relation.Envs.{filled, no_env, some_term}
 use Rattle.sap_forward.specs.Counted.{rule_count, all_copying}
-use Rattle.sap_forward.specs.Least.{is_among, names_drawn}
+use Rattle.sap_rule_lines.specs.Least.{is_among, names_drawn}
 use Rattle.sap_forward.specs.LinesFor.{no_lines}
 use Rattle.sap_forward.specs.Linked.{Linked, EnvWithin}
 use Rattle.sap_forward.specs.RuleLinesPass.{BringNoName}
@@ -105,7 +106,7 @@ draws_last drawn (line.Apply f ks) h = tt
 draws_last drawn (line.Know k) h = tt
 
 module _ (laws : Laws) (g : Sig) (p q : Proc) (ready : IsReady g p) (small : node_count p < 2 ^ 64) (annotated : IsAnnotation p q) (drawn : List ℕ) where
-  pub first_linked : Linked g HasFewNodes q drawn first_tables (Some (running [] no_env q) ∷ []) (initial q) [] [] first_state ((init_fact ∷ []) ∷ [])
+  pub first_linked : Linked g HasFewNodes q drawn first_rule_tables (Some (running [] no_env q) ∷ []) (initial q) [] [] first_state ((init_fact ∷ []) ∷ [])
   first_linked = record {
     rest = laws.starts g p q ready small annotated;
     known = refl;
@@ -179,14 +180,14 @@ pub record Starts (g : Sig) (q : Proc) (drawn : List ℕ) (c : Config) (es : Lis
   pub so_far : Converted g HasFewNodes q drawn [] c es [] []
   pub rest : so_far.rest ≡ []
   pub agents : so_far.agents ≡ Some (running [] no_env q) ∷ []
-  pub tables : so_far.tables ≡ first_tables
+  pub tables : so_far.tables ≡ first_rule_tables
 
 pub first_converted : (g : Sig) (q : Proc) → StartsLinked g q → (drawn : List ℕ) → Starts g q drawn (initial q) []
 first_converted g q starts drawn = record {
   so_far = record {
     rest = [];
     agents = Some (running [] no_env q) ∷ [];
-    tables = first_tables;
+    tables = first_rule_tables;
     state = first_state;
     full = (init_fact ∷ []) ∷ [];
     legal = IsLegalRun.further init_line (init_fact ∷ []) IsLegalRun.starts starts.line;
@@ -243,7 +244,7 @@ none_there zero f m = absurd (omega (arith, m.1))
 none_there (suc k) f m = absurd (omega (arith, m.1))
 
 -- no lines stand opposite to none
-pub none_opposite : (laws : RunLaws) (g : Sig) (q : Proc) → IsOpposite g q [] [] [] [] []
+pub none_opposite : (laws : RunLaws) (g : Sig) (q : Proc) → IsOppositeRuleRun g q [] [] [] [] []
 none_opposite laws g q = record {
   state = empty_state;
   full = [];
@@ -258,7 +259,7 @@ none_opposite laws g q = record {
 
 -- what is converted behind the last line is opposite to all
 pub all_opposite : (laws : RunLaws) (g : Sig) (p q : Proc) → HoldsBuiltins g → IsReady g p → node_count p < 2 ^ 64 → IsAnnotation p q → (step : PStep) (lines : List PStep) (c : Config) (es : List Tree) (tr : Trace) (ms : List Mark)
-    (w : Converted g HasFewNodes q (names_drawn (step ∷ lines)) (step ∷ lines) c es tr ms) → IsOpposite g q (step ∷ lines) es tr ms (init_line ∷ w.rest)
+    (w : Converted g HasFewNodes q (names_drawn (step ∷ lines)) (step ∷ lines) c es tr ms) → IsOppositeRuleRun g q (step ∷ lines) es tr ms (init_line ∷ w.rest)
 all_opposite laws g p q hold ready small annotated step lines c es tr ms w =
     let same = laws.shows_the_same g p q hold ready small annotated w.agents c tr w.state w.full w.linked.rest in
     record {
@@ -286,10 +287,10 @@ module _ {g : Sig} {W : Tree → Type 0} {q : Proc} {drawn : List ℕ} {step : P
 pub all_brought : {g : Sig} {W : Tree → Type 0} {q : Proc} {drawn : List ℕ} {lines : List PStep} {c : Config} {es : List Tree} {tr : Trace} {ms : List Mark} (w : Converted g W q drawn lines c es tr ms) → BringNoName q lines (init_line ∷ w.rest)
 all_brought w test process passed = (tt, w.brought test process passed)
 
-pub have_opposites : (laws : RunLaws) (g : Sig) (p q : Proc) → HoldsBuiltins g → IsReady g p → node_count p < 2 ^ 64 → IsAnnotation p q → HasOpposites g q
+pub have_opposites : (laws : RunLaws) (g : Sig) (p q : Proc) → HoldsBuiltins g → IsReady g p → node_count p < 2 ^ 64 → IsAnnotation p q → HasOppositeRuleRuns g q
 have_opposites laws g p q hold ready small annotated [] c es tr ms run =
     let none = nothing_yet run refl in
-    ([], subst (λ x. IsOpposite g q [] x tr ms []) (sym none.0) (subst (λ x. IsOpposite g q [] [] x ms []) (sym none.1) (subst (λ x. IsOpposite g q [] [] [] x []) (sym none.2) (none_opposite laws g q))), refl, refl)
+    ([], subst (λ x. IsOppositeRuleRun g q [] x tr ms []) (sym none.0) (subst (λ x. IsOppositeRuleRun g q [] [] x ms []) (sym none.1) (subst (λ x. IsOppositeRuleRun g q [] [] [] x []) (sym none.2) (none_opposite laws g q))), refl, refl)
 have_opposites laws g p q hold ready small annotated (step ∷ lines) c es tr ms run =
     let w = converted laws g p q hold ready small annotated (names_drawn (step ∷ lines)) run (λ n e. e) in
     (init_line ∷ w.rest, all_opposite laws g p q hold ready small annotated step lines c es tr ms w, all_counted w, all_back w)

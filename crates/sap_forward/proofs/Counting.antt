@@ -7,13 +7,13 @@ use Rattle.sap_process.specs.Proc.{Proc}
 use Rattle.sap_runs.specs.declared.process_step.PStep.{PStep}
 use Rattle.sap_runs.specs.declared.rule_step.RStep.{RStep}
 use Rattle.sap_translate.specs.LineCounts.{back_count}
-use Rattle.sap_translate.specs.Templates.{first_of}
+use Rattle.sap_templates.specs.Templates.{first_of}
 use Rattle.sap_translate.specs.relation.Agents.{Agent, running, copying}
 use Rattle.sap_translate.specs.relation.Envs.{Env, no_env}
 use Rattle.sap_forward.specs.Counted.{lines_for, lines_for_all, copying_behind, all_copying}
-use Rattle.sap_forward.specs.Least.{is_among}
-use Rattle.sap_forward.specs.Tables.{Tables}
-use Rattle.sap_forward.specs.Written.{IsWritten}
+use Rattle.sap_rule_lines.specs.Least.{is_among}
+use Rattle.sap_forward.specs.Tables.{RuleTables}
+use Rattle.sap_forward.specs.Written.{IsWrittenAsRules}
 use Rattle.sap_forward.specs.code.Begun.{has_started, AreCopying}
 use Rattle.sap_forward.proofs.Given.{cases, same, apart}
 use Rattle.sap_forward.proofs.Tabled.{get_set, get_other, length_join}
@@ -55,44 +55,44 @@ start_one ts agents t path env p x h there i = elim (cases t i) [
 none : (ts : List ℕ) (agents : List (Option Agent)) (t : ℕ) (path : List ℕ) (env : Env) (p : Proc) → AreCopying ts agents → slice_get agents t ≡ Some (Some (running path env p)) → is_among ts t ≡ false
 none ts agents t path env p h is = h t ∙ ap has_started is
 
-module _ {g : Sig} {drawn : List ℕ} {agents : List (Option Agent)} {c : Config} {tables : Tables} (ts : List ℕ) (h : AreCopying ts agents) where
-  pub counts : {step : PStep} {lines : List RStep} {later : List (Option Agent)} {behind : Tables} → IsWritten g drawn agents c tables step lines later behind → IsCount ts step lines later
-  counts (IsWritten.ends t k path env sits) = record { counted = refl; copying = set_one ts agents t None h (none ts agents t path env _ h sits.thread) refl; back = refl }
-  counts (IsWritten.splits t k path env p q sits) = record { counted = refl; copying = push_one ts _ _ (set_one ts agents t _ h (none ts agents t path env _ h sits.thread) refl) refl; back = refl }
-  counts (IsWritten.copies_first t k path env p sits) =
+module _ {g : Sig} {drawn : List ℕ} {agents : List (Option Agent)} {c : Config} {tables : RuleTables} (ts : List ℕ) (h : AreCopying ts agents) where
+  pub counts : {step : PStep} {lines : List RStep} {later : List (Option Agent)} {behind : RuleTables} → IsWrittenAsRules g drawn agents c tables step lines later behind → IsCount ts step lines later
+  counts (IsWrittenAsRules.ends t k path env sits) = record { counted = refl; copying = set_one ts agents t None h (none ts agents t path env _ h sits.thread) refl; back = refl }
+  counts (IsWrittenAsRules.splits t k path env p q sits) = record { counted = refl; copying = push_one ts _ _ (set_one ts agents t _ h (none ts agents t path env _ h sits.thread) refl) refl; back = refl }
+  counts (IsWrittenAsRules.copies_first t k path env p sits) =
       let new : (if is_among ts t then ts else t ∷ ts) ≡ t ∷ ts = ap (λ b. if b then ts else t ∷ ts) (none ts agents t path env _ h sits.thread) in
       record {
         counted = let n = ap length new in omega arith;
         copying = subst (λ x. AreCopying x (slice_set agents t (Some (copying path env p)) ++ Some (running (first_of path) env p) ∷ [])) (sym new) (push_one (t ∷ ts) _ _ (start_one ts agents t path env p _ h sits.thread) refl);
         back = refl;
       }
-  counts (IsWritten.copies_more t k path env p sits) =
+  counts (IsWrittenAsRules.copies_more t k path env p sits) =
       let old : (if is_among ts t then ts else t ∷ ts) ≡ ts = ap (λ b. if b then ts else t ∷ ts) (h t ∙ ap has_started sits.thread) in
       record {
         counted = let n = ap length old in omega arith;
         copying = subst (λ x. AreCopying x (agents ++ Some (running (first_of path) env p) ∷ [])) (sym old) (push_one ts agents _ h refl);
         back = refl;
       }
-  counts (IsWritten.makes_name t k n path env x p sits) = record { counted = refl; copying = set_one ts agents t _ h (none ts agents t path env _ h sits.thread) refl; back = refl }
-  counts (IsWritten.outputs t k path env m p sits) = record { counted = refl; copying = set_one ts agents t _ h (none ts agents t path env _ h sits.thread) refl; back = refl }
-  counts (IsWritten.outputs_on t k j path env m n p sits) = record { counted = refl; copying = set_one ts agents t _ h (none ts agents t path env _ h sits.thread) refl; back = refl }
-  counts (IsWritten.inputs t k j path env m σ p sits) = record { counted = refl; copying = set_one ts agents t _ h (none ts agents t path env _ h sits.thread) refl; back = refl }
-  counts (IsWritten.inputs_on t k j path env m n σ p sits) = record { counted = refl; copying = set_one ts agents t _ h (none ts agents t path env _ h sits.thread) refl; back = refl }
-  counts (IsWritten.meets a b j k n path at env other m u l r σ p q sits sits_too next) = record { counted = refl; copying = set_one ts _ a _ (set_one ts agents b _ h (none ts agents b at other _ h sits_too.thread) refl) (none ts agents a path env _ h sits.thread) refl; back = refl }
-  counts (IsWritten.agrees t k path env m n p q sits) = record { counted = refl; copying = set_one ts agents t _ h (none ts agents t path env _ h sits.thread) refl; back = refl }
-  counts (IsWritten.differs t k path env m n p q sits) = record { counted = refl; copying = set_one ts agents t _ h (none ts agents t path env _ h sits.thread) refl; back = refl }
-  counts (IsWritten.shows t k path env f p sits) = record { counted = refl; copying = set_one ts agents t _ h (none ts agents t path env _ h sits.thread) refl; back = refl }
-  counts (IsWritten.inserts t k path env m n p sits) = record { counted = refl; copying = set_one ts agents t _ h (none ts agents t path env _ h sits.thread) refl; back = refl }
-  counts (IsWritten.deletes t k path env m p sits) = record { counted = refl; copying = set_one ts agents t _ h (none ts agents t path env _ h sits.thread) refl; back = refl }
-  counts (IsWritten.finds t k path env m x v y b p q sits form held var term) = record { counted = refl; copying = set_one ts agents t _ h (none ts agents t path env _ h sits.thread) refl; back = refl }
-  counts (IsWritten.misses t k path env m y p q sits) = record { counted = refl; copying = set_one ts agents t _ h (none ts agents t path env _ h sits.thread) refl; back = refl }
-  counts (IsWritten.locks t k n path env m l p sits next) = record { counted = refl; copying = set_one ts agents t _ h (none ts agents t path env _ h sits.thread) refl; back = refl }
-  counts (IsWritten.unlocks t k path env m l p sits) = record { counted = refl; copying = set_one ts agents t _ h (none ts agents t path env _ h sits.thread) refl; back = refl }
-  counts (IsWritten.embeds t k ks js b path env l e r σ p sits cited) = record { counted = refl; copying = set_one ts agents t _ h (none ts agents t path env _ h sits.thread) refl; back = refl }
-  counts (IsWritten.names n) = record { counted = refl; copying = h; back = refl }
-  counts (IsWritten.writes a) = record { counted = refl; copying = h; back = refl }
-  counts (IsWritten.applies f ks) = record { counted = refl; copying = h; back = refl }
-  counts (IsWritten.knows k) = record { counted = refl; copying = h; back = refl }
+  counts (IsWrittenAsRules.makes_name t k n path env x p sits) = record { counted = refl; copying = set_one ts agents t _ h (none ts agents t path env _ h sits.thread) refl; back = refl }
+  counts (IsWrittenAsRules.outputs t k path env m p sits) = record { counted = refl; copying = set_one ts agents t _ h (none ts agents t path env _ h sits.thread) refl; back = refl }
+  counts (IsWrittenAsRules.outputs_on t k j path env m n p sits) = record { counted = refl; copying = set_one ts agents t _ h (none ts agents t path env _ h sits.thread) refl; back = refl }
+  counts (IsWrittenAsRules.inputs t k j path env m σ p sits) = record { counted = refl; copying = set_one ts agents t _ h (none ts agents t path env _ h sits.thread) refl; back = refl }
+  counts (IsWrittenAsRules.inputs_on t k j path env m n σ p sits) = record { counted = refl; copying = set_one ts agents t _ h (none ts agents t path env _ h sits.thread) refl; back = refl }
+  counts (IsWrittenAsRules.meets a b j k n path at env other m u l r σ p q sits sits_too next) = record { counted = refl; copying = set_one ts _ a _ (set_one ts agents b _ h (none ts agents b at other _ h sits_too.thread) refl) (none ts agents a path env _ h sits.thread) refl; back = refl }
+  counts (IsWrittenAsRules.agrees t k path env m n p q sits) = record { counted = refl; copying = set_one ts agents t _ h (none ts agents t path env _ h sits.thread) refl; back = refl }
+  counts (IsWrittenAsRules.differs t k path env m n p q sits) = record { counted = refl; copying = set_one ts agents t _ h (none ts agents t path env _ h sits.thread) refl; back = refl }
+  counts (IsWrittenAsRules.shows t k path env f p sits) = record { counted = refl; copying = set_one ts agents t _ h (none ts agents t path env _ h sits.thread) refl; back = refl }
+  counts (IsWrittenAsRules.inserts t k path env m n p sits) = record { counted = refl; copying = set_one ts agents t _ h (none ts agents t path env _ h sits.thread) refl; back = refl }
+  counts (IsWrittenAsRules.deletes t k path env m p sits) = record { counted = refl; copying = set_one ts agents t _ h (none ts agents t path env _ h sits.thread) refl; back = refl }
+  counts (IsWrittenAsRules.finds t k path env m x v y b p q sits form held var term) = record { counted = refl; copying = set_one ts agents t _ h (none ts agents t path env _ h sits.thread) refl; back = refl }
+  counts (IsWrittenAsRules.misses t k path env m y p q sits) = record { counted = refl; copying = set_one ts agents t _ h (none ts agents t path env _ h sits.thread) refl; back = refl }
+  counts (IsWrittenAsRules.locks t k n path env m l p sits next) = record { counted = refl; copying = set_one ts agents t _ h (none ts agents t path env _ h sits.thread) refl; back = refl }
+  counts (IsWrittenAsRules.unlocks t k path env m l p sits) = record { counted = refl; copying = set_one ts agents t _ h (none ts agents t path env _ h sits.thread) refl; back = refl }
+  counts (IsWrittenAsRules.embeds t k ks js b path env l e r σ p sits cited) = record { counted = refl; copying = set_one ts agents t _ h (none ts agents t path env _ h sits.thread) refl; back = refl }
+  counts (IsWrittenAsRules.names n) = record { counted = refl; copying = h; back = refl }
+  counts (IsWrittenAsRules.writes a) = record { counted = refl; copying = h; back = refl }
+  counts (IsWrittenAsRules.applies f ks) = record { counted = refl; copying = h; back = refl }
+  counts (IsWrittenAsRules.knows k) = record { counted = refl; copying = h; back = refl }
 
 pub counted_join : (lines : List PStep) (step : PStep) → lines_for_all (lines ++ step ∷ []) ≡ lines_for_all lines + lines_for step
 counted_join [] step = omega arith

@@ -33,8 +33,8 @@ use Rattle.sap_runs.specs.declared.process_step.PStep.TheVariants as line
 use Rattle.sap_runs.specs.declared.rule_step.RStep.TheVariants.{Rule as RuleLine}
 use Rattle.sap_lines.specs.Lines.{EvaluateWithin, left_open as line_open}
 use Rattle.sap_translate.specs.Members.{Member}
-use Rattle.sap_translate.specs.Templates as rules
-use Rattle.sap_translate.specs.Templates.{rules_of, first_of}
+use Rattle.sap_templates.specs.Templates as rules
+use Rattle.sap_templates.specs.Templates.{rules_of, first_of}
 use Rattle.sap_translate.specs.Opened.{left_open}
 use Rattle.sap_translate.specs.relation.Agents.{Agent, running}
 use Rattle.sap_translate.specs.relation.Answers.{under, widened, goes_on, at_first}
@@ -42,13 +42,13 @@ use Rattle.sap_translate.specs.relation.Answered as case
 use Rattle.sap_translate.specs.relation.Envs.{Env, names, filled, chosen}
 use Rattle.sap_translate.specs.relation.RuleMoves as move
 use Rattle.sap_forward.specs.Answered.{IsAnswered}
-use Rattle.sap_forward.specs.Least.{not_drawn, numbers_below}
+use Rattle.sap_rule_lines.specs.Least.{not_drawn, numbers_below}
 use Rattle.sap_forward.specs.Linked.{Linked, EnvWithin, MadeFor}
-use Rattle.sap_forward.specs.Tables.{Tables, AreNumbers, AreTables}
-use Rattle.sap_forward.specs.Written.{IsWritten, moved, with_pile}
+use Rattle.sap_forward.specs.Tables.{RuleTables, AreNumbers, AreRuleTables}
+use Rattle.sap_forward.specs.Written.{IsWrittenAsRules, moved, with_process_facts}
 use Rattle.sap_forward.proofs.Evaluated.{FactsEvaluate, rule_within, terms_within, facts_var, facts_left, facts_right}
 use Rattle.sap_forward.proofs.Lines.{lines_of, used_line}
-use Rattle.sap_forward.proofs.Marked.{embedded_marks}
+use Rattle.sap_translate.proofs.Shared.Marked.{embedded_marks}
 use Rattle.sap_forward.proofs.Moves.{ruled_by_move}
 use Rattle.sap_forward.proofs.Fresh.{in_front}
 use Rattle.sap_forward.proofs.Inputs.{wide_pattern}
@@ -72,7 +72,7 @@ same_length : (σ : Choice) (fs : List Fact) → length (instance_facts σ fs) �
 same_length σ [] = refl
 same_length σ (f ∷ fs) = ap suc (same_length σ fs)
 
-module _ (laws : Laws) (g : Sig) (W : Tree → Type 0) (p q : Proc) (hold : HoldsBuiltins g) (ready : IsReady g p) (small : node_count p < 2 ^ 64) (annotated : IsAnnotation p q) (drawn : List ℕ) (agents : List (Option Agent)) (c : Config) (es : List Tree) (tr : Trace) (s : RuleState) (full : Trace) (tables : Tables) (lk : Linked g W q drawn tables agents c es tr s full) where
+module _ (laws : Laws) (g : Sig) (W : Tree → Type 0) (p q : Proc) (hold : HoldsBuiltins g) (ready : IsReady g p) (small : node_count p < 2 ^ 64) (annotated : IsAnnotation p q) (drawn : List ℕ) (agents : List (Option Agent)) (c : Config) (es : List Tree) (tr : Trace) (s : RuleState) (full : Trace) (tables : RuleTables) (lk : Linked g W q drawn tables agents c es tr s full) where
   pub embeds_here : (t : ℕ) (path : List ℕ) (env : Env) (l e r : List Fact) (u : Proc) (ks : List ℕ) (b : List Binding) (σ : Choice) (taken acts added : List Fact) (rest : Pile) → slice_get agents t ≡ Some (Some (running path env (act (action.embedded l e r) u)))
       → let L : List Fact = instance_facts (chosen env) l in let E : List Fact = instance_facts (chosen env) e in let R : List Fact = instance_facts (chosen env) r in
       Runs c t (act (action.embedded L E R) (under env u)) → IsMessageChoice g σ → bound_vars b ≡ line_open L E R → Agrees b σ
@@ -119,7 +119,7 @@ module _ (laws : Laws) (g : Sig) (W : Tree → Type 0) (p q : Proc) (hold : Hold
       let thread : under wider u ≡ with_choice σ (facts_vars (L ++ (E ++ R))) (under env u) =
       one_inside (sym (get_set c.threads t (Some (act (action.embedded L E R) (under env u))) (Some (under wider u)) runs) ∙ ruled_by_move g c t ks σ L E R (under env u) acts d0 ans.process runs) in
       let z : RuleState = leaves s (adds by.later (next ∷ added)) in
-      let turned : AreTables (goes_on agents t path wider u) rest (by.later ++ Some next ∷ []) (moved tables t 0) = tables_turn agents c.facts s.facts tables lk.tabled t k 0 (by.later ++ Some next ∷ []) (running (first_of path) wider u) next rest sits.1.number
+      let turned : AreRuleTables (goes_on agents t path wider u) rest (by.later ++ Some next ∷ []) (moved tables t 0) = tables_turn agents c.facts s.facts tables lk.tabled t k 0 (by.later ++ Some next ∷ []) (running (first_of path) wider u) next rest sits.1.number
       (λ i j f n apart h. get_left by.later (Some next ∷ []) j (Some f) (by.others j (λ o m. lk.tabled.apart i o j n m) ∙ get_other s.facts k j None apart ∙ h))
       (numbers_stay rest by.later (by.later ++ Some next ∷ []) tables.facts by.numbers (λ i j f n h. get_left by.later (Some next ∷ []) j (Some f) h) (let o = length_join by.later (Some next ∷ []) in omega arith)) refl
       (let o = length_join by.later (Some next ∷ []) in let o2 = by.long in omega arith) (get_right by.later (Some next ∷ []) 0 (length s.facts + 0) (Some next) refl (let o2 = by.long in omega arith)) in
@@ -130,10 +130,10 @@ module _ (laws : Laws) (g : Sig) (W : Tree → Type 0) (p q : Proc) (hold : Hold
       (record {
         lines = RuleLine rl.name (k ∷ by.js) b ∷ [];
         later = goes_on agents t path wider u;
-        behind = with_pile (moved tables t 0) (length r);
+        behind = with_process_facts (moved tables t 0) (length r);
         state = z;
         more = rules.embedded_acts acts ∷ [];
-        written = IsWritten.embeds t k ks by.js b path env l e r σ u sits.1 by.cited;
+        written = IsWrittenAsRules.embeds t k ks by.js b path env l e r σ u sits.1 by.cited;
         legal = lines_of W g (rules_of q) s z (move.uses rl (k ∷ by.js) (filled wider) ∷ []) (RuleLine rl.name (k ∷ by.js) b ∷ []) (rules.embedded_acts acts ∷ []) (
           (λ a y h. used_line W g (rules_of q) (laws.named q) s y a rl (k ∷ by.js) (filled wider) b (record { vars = binds_vars ∙ sym open_is; agrees = agrees' })
               (rule_within g W (filled wider) rl (st, ev_l) (acts_evaluate g W (filled wider) e ev_e) (st2, ev_r)) h),
@@ -142,8 +142,8 @@ module _ (laws : Laws) (g : Sig) (W : Tree → Type 0) (p q : Proc) (hold : Hold
         linked = record {
           rest = ans.rest;
           known = lk.known;
-          tabled = subst (λ n. AreTables (goes_on agents t path wider u) (adds rest added) (adds by.later (next ∷ added)) (with_pile (moved tables t 0) n)) added_long
-              (subst (λ x. AreTables (goes_on agents t path wider u) (adds rest added) x (with_pile (moved tables t 0) (length added))) (append_assoc by.later (Some next ∷ []) (map Some added)) come);
+          tabled = subst (λ n. AreRuleTables (goes_on agents t path wider u) (adds rest added) (adds by.later (next ∷ added)) (with_process_facts (moved tables t 0) n)) added_long
+              (subst (λ x. AreRuleTables (goes_on agents t path wider u) (adds rest added) x (with_process_facts (moved tables t 0) (length added))) (append_assoc by.later (Some next ∷ []) (map Some added)) come);
           made = λ n i. elim (lk.made n i) [ MadeFor.a_process a e ↦ MadeFor.a_process a e | MadeFor.the_adversary a e ↦ MadeFor.the_adversary a e | MadeFor.a_lock_or_tag e l ↦ MadeFor.a_lock_or_tag e l ];
           entries = lk.entries;
           envs = envs_set (EnvWithin g W) agents t (Some (running (first_of path) wider u)) lk.envs (only_env (EnvWithin g W) (first_of path) wider u all);

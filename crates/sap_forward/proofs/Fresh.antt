@@ -32,8 +32,8 @@ use Rattle.sap_lines.specs.Lines.{EvaluateWithin}
 use Rattle.sap_steps.specs.Lines.{IsLine}
 use Rattle.sap_translate.specs.Members.{Member}
 use Rattle.sap_translate.specs.Scoped.{IsFree}
-use Rattle.sap_translate.specs.Templates as rules
-use Rattle.sap_translate.specs.Templates.{rules_of, first_of}
+use Rattle.sap_templates.specs.Templates as rules
+use Rattle.sap_templates.specs.Templates.{rules_of, first_of}
 use Rattle.sap_translate.specs.relation.Agents.{Agent, running}
 use Rattle.sap_translate.specs.relation.Answers.{term_under, under}
 use Rattle.sap_translate.specs.relation.Answered as case
@@ -41,10 +41,10 @@ use Rattle.sap_translate.specs.relation.Envs.{Env, names, filled, chosen, just, 
 use Rattle.sap_translate.specs.relation.ProcessMoves as process
 use Rattle.sap_translate.specs.relation.RuleMoves as move
 use Rattle.sap_forward.specs.Answered.{IsAnswered}
-use Rattle.sap_forward.specs.Least.{is_among, not_drawn, numbers_below, IsNext}
+use Rattle.sap_rule_lines.specs.Least.{is_among, not_drawn, numbers_below, IsNext}
 use Rattle.sap_forward.specs.Linked.{Linked, EnvWithin, MadeFor}
-use Rattle.sap_forward.specs.Tables.{Tables}
-use Rattle.sap_forward.specs.Written.{IsWritten, with_facts}
+use Rattle.sap_forward.specs.Tables.{RuleTables}
+use Rattle.sap_forward.specs.Written.{IsWrittenAsRules, with_facts}
 use Rattle.sap_forward.proofs.Evaluated.{rule_within, left, right, sides}
 use Rattle.sap_forward.proofs.Given.{next_from, next_given, drawn_given, free_one}
 use Rattle.sap_forward.proofs.Lines.{lines_of, made_line, owned_line}
@@ -102,7 +102,7 @@ made_next drawn next c d n ns made own h all m k = elim (Contains-push_cases ns 
   newest : n ≡ m → MadeFor drawn (n + 1) d m
   newest same = MadeFor.a_lock_or_tag (ap (is_among drawn) (sym same) ∙ h.free) (omega arith)
 
-module _ (laws : Laws) (g : Sig) (W : Tree → Type 0) (p q : Proc) (hold : HoldsBuiltins g) (ready : IsReady g p) (small : node_count p < 2 ^ 64) (annotated : IsAnnotation p q) (drawn : List ℕ) (agents : List (Option Agent)) (c : Config) (es : List Tree) (tr : Trace) (s : RuleState) (full : Trace) (tables : Tables) (lk : Linked g W q drawn tables agents c es tr s full) (limit : IsLimit g W) where
+module _ (laws : Laws) (g : Sig) (W : Tree → Type 0) (p q : Proc) (hold : HoldsBuiltins g) (ready : IsReady g p) (small : node_count p < 2 ^ 64) (annotated : IsAnnotation p q) (drawn : List ℕ) (agents : List (Option Agent)) (c : Config) (es : List Tree) (tr : Trace) (s : RuleState) (full : Trace) (tables : RuleTables) (lk : Linked g W q drawn tables agents c es tr s full) (limit : IsLimit g W) where
   pub makes_name_here : (t n : ℕ) (path : List ℕ) (env : Env) (x : Var) (u : Proc) → slice_get agents t ≡ Some (Some (running path env (act (action.new x) u))) → Runs c t (act (action.new x) (process_instance (without (chosen env) x) u)) → IsUnused c n → is_among drawn n ≡ true
       → IsAnswered g W q drawn agents c tables s full (line.New t n) (makes (becomes c t (Some (with_term x (fresh n) (process_instance (without (chosen env) x) u)))) n) es (tr ++ shown []) (marks_of [] [])
   makes_name_here t n path env x u is runs unused known =
@@ -128,7 +128,7 @@ module _ (laws : Laws) (g : Sig) (W : Tree → Type 0) (p q : Proc) (hold : Hold
       (twofold laws g W p q hold ready small annotated drawn agents c es tr s full tables lk t k path env body sits.1 (first_of path) wider u all (line.New t n) (process.makes_name t n) [] (makes (becomes c t (Some (under wider u))) n) (move.makes_name n) (Fresh n) [] (fr_fact n) r (filled wider) [] (marks_of [] []) _ tables.next ans
       refl lk.known (λ m i. elim (Contains-push_cases s.made n m i) [ inl old ↦ further m (lk.made m old) | inr same ↦ MadeFor.a_process (subst (λ y. Contains (c.made ++ n ∷ []) y) same (Contains-push c.made n)) (ap (is_among drawn) (sym same) ∙ known) ])
       (λ a z h. made_line W g (rules_of q) (laws.named q) s z a n h) none (rule_within g W (filled wider) r (st, ((var, tt), tt)) tt (st2, tt)) refl lk.stored refl
-      (drawn_given drawn tables.next n known) (IsWritten.makes_name t k n path env x u sits.1))
+      (drawn_given drawn tables.next n known) (IsWrittenAsRules.makes_name t k n path env x u sits.1))
     where
       further : (m : ℕ) → MadeFor drawn tables.next c m → MadeFor drawn tables.next (makes (becomes c t (Some (under (join env (just (fresh_var x) (fresh n))) u))) n) m
       further m (MadeFor.a_process a e) = MadeFor.a_process (Contains-append_left c.made (n ∷ []) m a) e
@@ -162,7 +162,7 @@ module _ (laws : Laws) (g : Sig) (W : Tree → Type 0) (p q : Proc) (hold : Hold
       twofold laws g W p q hold ready small annotated drawn agents c es tr s full tables lk t k path env body sits.1 (first_of path) wider u all (line.Lock t) (process.locks t) [] d (move.makes_name n) (Fresh n) [] (fr_fact n) r (filled wider) (lock_fact (fresh n) x ∷ []) (marks_of (locked x ∷ []) []) _ (n + 1) ans
       refl lk.known (made_next drawn tables.next c d n s.made refl refl next.1 lk.made)
       (λ a z h. made_line W g (rules_of q) (laws.named q) s z a n h) none (rule_within g W (filled wider) r (st, ((var, tt), tt)) ((var, (key, tt)), tt) (st2, tt)) refl lk.stored refl
-      (next_given drawn tables.next n next.1 ∙ ap (λ i. not_drawn drawn (numbers_below tables.next) ++ i) (sym (free_one drawn n next.1.free))) (IsWritten.locks t k n path env m l u sits.1 next.1)
+      (next_given drawn tables.next n next.1 ∙ ap (λ i. not_drawn drawn (numbers_below tables.next) ++ i) (sym (free_one drawn n next.1.free))) (IsWrittenAsRules.locks t k n path env m l u sits.1 next.1)
 
   pub names_here : (n : ℕ) → IsUnused c n → is_among drawn n ≡ true → IsAnswered g W q drawn agents c tables s full (line.Name n) (owns c n) (es ++ fresh n ∷ []) (tr ++ shown []) (marks_of [] [])
   names_here n unused known =
@@ -176,7 +176,7 @@ module _ (laws : Laws) (g : Sig) (W : Tree → Type 0) (p q : Proc) (hold : Hold
         behind = with_facts tables 1;
         state = _;
         more = [] ∷ [] ∷ [];
-        written = IsWritten.names n;
+        written = IsWrittenAsRules.names n;
         legal = lines_of W g (rules_of q) s _ (move.makes_name n ∷ move.owns N n ∷ []) (Fresh n ∷ Own tables.count ∷ []) ([] ∷ [] ∷ [])
             ((λ a y h. made_line W g (rules_of q) (laws.named q) s y a n h), (λ y. ((λ a x h. subst (λ i. IsLine g (rules_of q) W y (Own i) a x) (sym lk.tabled.count) (owned_line W g (rules_of q) (laws.named q) y x a N n h)), (λ x. tt)))) ans.rules;
         linked = record {

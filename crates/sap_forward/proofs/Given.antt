@@ -6,7 +6,7 @@ use Rattle.std.proofs.lemmas.Grind.{flat_map-append}
 use Rattle.std.proofs.lemmas.List.Elements.{filter-append}
 use Rattle.sap_runs.specs.declared.rule_step.RStep.{RStep}
 use Rattle.sap_runs.specs.declared.process_step.PStep.{PStep}
-use Rattle.sap_forward.specs.Least.{is_among, drawn_by, names_drawn, made_by, names_made, not_drawn, numbers_below, IsNext}
+use Rattle.sap_rule_lines.specs.Least.{is_among, drawn_by, names_drawn, made_by, names_made, not_drawn, numbers_below, IsNext}
 
 abbrev top : List ℕ → ℕ
 top [] = 0

@@ -20,9 +20,10 @@ use Rattle.sap_translate.specs.LineCounts.{back_count}
 use Rattle.sap_translate.specs.relation.Agents.{running}
 use Rattle.sap_translate.specs.relation.Envs.{no_env}
 use Rattle.sap_forward.specs.Answered.{Draws}
-use Rattle.sap_forward.specs.Converted.{IsConverted}
-use Rattle.sap_forward.specs.Least.{is_among, names_drawn}
-use Rattle.sap_forward.specs.Opposite.{IsOpposite, init_line}
+use Rattle.sap_forward.specs.Converted.{IsConvertedToRules}
+use Rattle.sap_rule_lines.specs.Least.{is_among, names_drawn}
+use Rattle.sap_forward.specs.Opposite.{IsOppositeRuleRun}
+use Rattle.sap_rule_lines.specs.RuleLines.{init_line}
 use Rattle.sap_forward.specs.RuleLinesPass.{BringNoName}
 use Rattle.sap_forward.specs.code.Begun.{Begins, GoesOn, EndsConverted}
 use Rattle.sap_forward.specs.code.Desk.{Keeps}
@@ -85,14 +86,14 @@ ends laws g p q hold ready small annotated step lines r d written b =
       trace = b.trace;
       marks = b.marks;
       legal = b.legal;
-      opposite = subst (λ x. IsOpposite g q all es b.trace b.marks x) (sym b.stand) (all_opposite laws g p q hold ready small annotated step lines (configuration r) es b.trace b.marks b.so_far);
+      opposite = subst (λ x. IsOppositeRuleRun g q all es b.trace b.marks x) (sym b.stand) (all_opposite laws g p q hold ready small annotated step lines (configuration r) es b.trace b.marks b.so_far);
       counted = ap length b.stand ∙ all_counted b.so_far;
       back = ap back_count b.stand ∙ all_back b.so_far;
       names = subst (BringNoName q all) (sym b.stand) (all_brought b.so_far);
     }
 
 -- no lines are converted to none
-pub none : (laws : RunLaws) (g : Sig) (q : Proc) → IsConverted g q [] []
+pub none : (laws : RunLaws) (g : Sig) (q : Proc) → IsConvertedToRules g q [] []
 none laws g q = record {
   config = initial q;
   entries = [];

@@ -41,8 +41,8 @@ use Rattle.sap_lines.specs.Answers.{MatchesExactly}
 use Rattle.sap_lines.specs.Lines.{EvaluateWithin}
 use Rattle.sap_lines.specs.Runs.{CanGiveEach}
 use Rattle.sap_translate.specs.Members.{Member}
-use Rattle.sap_translate.specs.Templates as rules
-use Rattle.sap_translate.specs.Templates.{rules_of, first_of}
+use Rattle.sap_templates.specs.Templates as rules
+use Rattle.sap_templates.specs.Templates.{rules_of, first_of}
 use Rattle.sap_translate.specs.relation.Agents.{Agent, running}
 use Rattle.sap_translate.specs.relation.Answers.{term_under, under, widened}
 use Rattle.sap_translate.specs.relation.Answered as case
@@ -50,10 +50,10 @@ use Rattle.sap_translate.specs.relation.Envs.{Env, names, filled, chosen, just, 
 use Rattle.sap_translate.specs.relation.ProcessMoves as process
 use Rattle.sap_translate.specs.relation.RuleMoves as move
 use Rattle.sap_forward.specs.Answered.{IsAnswered}
-use Rattle.sap_forward.specs.Least.{not_drawn, numbers_below}
+use Rattle.sap_rule_lines.specs.Least.{not_drawn, numbers_below}
 use Rattle.sap_forward.specs.Linked.{Linked, EnvWithin, MadeFor}
-use Rattle.sap_forward.specs.Tables.{Tables}
-use Rattle.sap_forward.specs.Written.{IsWritten}
+use Rattle.sap_forward.specs.Tables.{RuleTables}
+use Rattle.sap_forward.specs.Written.{IsWrittenAsRules}
 use Rattle.sap_forward.proofs.Evaluated.{rule_within, var_within, left, right, sides}
 use Rattle.sap_forward.proofs.Lines.{given_line}
 use Rattle.sap_forward.proofs.Moves.{input_by_move, input_on_by_move, found_by_move}
@@ -96,7 +96,7 @@ pair_within g W a b n top fst_ok snd_ok (sub_here (below (sub_later (sub_here s)
 pair_within g W a b n top fst_ok snd_ok (sub_here (below (sub_later (sub_later s)))) = elim s [ ]
 pair_within g W a b n top fst_ok snd_ok (sub_later s) = elim s [ ]
 
-module _ (laws : Laws) (g : Sig) (W : Tree → Type 0) (p q : Proc) (hold : HoldsBuiltins g) (ready : IsReady g p) (small : node_count p < 2 ^ 64) (annotated : IsAnnotation p q) (drawn : List ℕ) (agents : List (Option Agent)) (c : Config) (es : List Tree) (tr : Trace) (s : RuleState) (full : Trace) (tables : Tables) (lk : Linked g W q drawn tables agents c es tr s full) (limit : IsLimit g W) (can : CanGiveEach g c es) (exact : MatchesExactly g c es) where
+module _ (laws : Laws) (g : Sig) (W : Tree → Type 0) (p q : Proc) (hold : HoldsBuiltins g) (ready : IsReady g p) (small : node_count p < 2 ^ 64) (annotated : IsAnnotation p q) (drawn : List ℕ) (agents : List (Option Agent)) (c : Config) (es : List Tree) (tr : Trace) (s : RuleState) (full : Trace) (tables : RuleTables) (lk : Linked g W q drawn tables agents c es tr s full) (limit : IsLimit g W) (can : CanGiveEach g c es) (exact : MatchesExactly g c es) where
   -- an entry evaluates within the limit
   entry_within : (j : ℕ) (x : Tree) → slice_get es j ≡ Some x → EvaluateWithin g W (x ∷ [])
   entry_within j x entry = let m = contains_got es x j entry in limit.parts x (can x m).normal (lk.entries x m)
@@ -133,7 +133,7 @@ module _ (laws : Laws) (g : Sig) (W : Tree → Type 0) (p q : Proc) (hold : Hold
       (twofold laws g W p q hold ready small annotated drawn agents c es tr s full tables lk t k path env body sits.1 (first_of path) wider u all (line.In t j) (process.inputs t σ) (k_fact x ∷ []) (becomes c t (Some (under wider u))) (move.gives x) (Know j) (k_fact x ∷ []) (in_fact x) r (filled wider) (input_fact x ∷ []) (marks_of [] (k_fact x ∷ [])) _ tables.next ans
       refl lk.known (λ o i. elim (lk.made o i) [ MadeFor.a_process a e ↦ MadeFor.a_process a e | MadeFor.the_adversary a e ↦ MadeFor.the_adversary a e | MadeFor.a_lock_or_tag e l ↦ MadeFor.a_lock_or_tag e l ])
       (λ a z h. given_line W g (rules_of q) (laws.named q) s z a j x e' h) none (rule_within g W (filled wider) r (st, ((ev, tt), tt)) ((ev, tt), tt) (st2, tt)) refl lk.stored refl (sym (append-nil (not_drawn drawn (numbers_below tables.next))))
-      (IsWritten.inputs t k j path env m σ u sits.1))
+      (IsWrittenAsRules.inputs t k j path env m σ u sits.1))
 
   pub inputs_on_here : (t j : ℕ) (path : List ℕ) (env : Env) (m n x : Tree) (u : Proc) (σ : Choice) → slice_get agents t ≡ Some (Some (running path env (act (action.receive m n) u))) → Runs c t (act (action.receive (term_under env m) (term_under env n)) (under env u)) → slice_get es j ≡ Some x
       → IsMessageChoice g σ → IsTheoryEqual (equations g) (app2 pair_name (term_under env m) (instance σ (term_under env n))) x → EvaluateWithin g W (term_under env m ∷ [])
@@ -174,7 +174,7 @@ module _ (laws : Laws) (g : Sig) (W : Tree → Type 0) (p q : Proc) (hold : Hold
       (twofold laws g W p q hold ready small annotated drawn agents c es tr s full tables lk t k path env body sits.1 (first_of path) wider u all (line.In t j) (process.inputs_on t σ) (k_fact x ∷ []) (becomes c t (Some (under wider u))) (move.gives x) (Know j) (k_fact x ∷ []) (in_fact x) r (filled wider) (input_fact x ∷ []) (marks_of [] (k_fact x ∷ [])) _ tables.next ans
       refl lk.known (λ o i. elim (lk.made o i) [ MadeFor.a_process a e ↦ MadeFor.a_process a e | MadeFor.the_adversary a e ↦ MadeFor.the_adversary a e | MadeFor.a_lock_or_tag e l ↦ MadeFor.a_lock_or_tag e l ])
       (λ o z h. given_line W g (rules_of q) (laws.named q) s z o j x e' h) none (rule_within g W (filled wider) r (st, ((ev, tt), tt)) ((ev, tt), tt) (st2, tt)) refl lk.stored refl (sym (append-nil (not_drawn drawn (numbers_below tables.next))))
-      (IsWritten.inputs_on t k j path env m n σ u sits.1))
+      (IsWrittenAsRules.inputs_on t k j path env m n σ u sits.1))
 
   pub finds_here : (t : ℕ) (path : List ℕ) (env : Env) (m x v : Tree) (y : Var) (u w : Proc) → slice_get agents t ≡ Some (Some (running path env (whole.lookup m y u w))) → Runs c t (whole.lookup (term_under env m) y (process_instance (without (chosen env) y) u) (under env w)) → IsNormalForm (equations g) (term_under env m) x → c.store x ≡ Some v
       → EvaluateWithin g W (term_under env m ∷ [])
@@ -205,4 +205,4 @@ module _ (laws : Laws) (g : Sig) (W : Tree → Type 0) (p q : Proc) (hold : Hold
       subst (λ d. IsAnswered g W q drawn agents c tables s full (line.Found t) d es (tr ++ shown []) (marks_of (found x v ∷ []) [])) d_is
       (plain laws g W p q hold ready small annotated drawn agents c es tr s full tables lk t k path env body sits.1 (first_of path) wider u all (line.Found t) (process.finds t) [] (becomes c t (Some (under wider u))) r (filled wider) (b ∷ []) (is_in_fact x v ∷ []) (marks_of (found x v ∷ []) []) ans
       (record { vars = sym only; agrees = (stands ∙ sym (tree-term v), tt) })
-      (rule_within g W (filled wider) r (st, tt) ((key, (var, tt)), tt) (st2, tt)) refl refl refl lk.stored refl (IsWritten.finds t k path env m x v y b u w sits.1 fx held refl (tree-term v)))
+      (rule_within g W (filled wider) r (st, tt) ((key, (var, tt)), tt) (st2, tt)) refl refl refl lk.stored refl (IsWrittenAsRules.finds t k path env m x v y b u w sits.1 fx held refl (tree-term v)))

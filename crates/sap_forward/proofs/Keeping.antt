@@ -7,9 +7,9 @@ use Rattle.sap_lines.specs.declared.place.Place.{Place}
 use Rattle.sap_translate.specs.relation.Agents.{Agent, running, copying}
 use Rattle.sap_translate.specs.relation.Answers.{goes_on, goes_aside}
 use Rattle.sap_translate.specs.relation.Envs.{Env}
-use Rattle.sap_forward.specs.Least.{is_among, IsNext}
-use Rattle.sap_forward.specs.Tables.{Tables}
-use Rattle.sap_forward.specs.Written.{Seated, SeatedCopying, moved, with_thread, with_facts, with_pile, gives, numbers_from}
+use Rattle.sap_rule_lines.specs.Least.{is_among, IsNext}
+use Rattle.sap_forward.specs.Tables.{RuleTables}
+use Rattle.sap_forward.specs.Written.{Seated, SeatedCopying, moved, with_thread_fact, with_facts, with_process_facts, gives, numbers_from}
 use Rattle.sap_forward.specs.code.Desk.{Keeps, SitsAt}
 use Rattle.sap_forward.specs.code.Steps.{IsAt, Goes, goes, joins, starts}
 use Rattle.sap_forward.specs.declared.desk.Desk.{Desk}
@@ -56,7 +56,7 @@ pub goes_then : (d e : Desk) (t digit come : ℕ) (child : Place → ℕ) (befor
 goes_then d e t digit come child before middle after ls more goes put s x is =
     let m = goes s x is in (m.0, lists_last before middle after (ls s.path s.number d.count) (more d.count) m.1 put)
 
-module _ (start : Proc) (drawn : List ℕ) (agents : List (Option Agent)) (tables : Tables) (d : Desk) (keeps : Keeps start drawn agents tables d) where
+module _ (start : Proc) (drawn : List ℕ) (agents : List (Option Agent)) (tables : RuleTables) (d : Desk) (keeps : Keeps start drawn agents tables d) where
   -- the seat of a thread that runs
   pub has_seat : (t k : ℕ) (path : List ℕ) (env : Env) (body : Proc) → Seated agents tables t k path env body → HasSeat d t k path body false
   has_seat t k path env body seated =
@@ -89,7 +89,7 @@ module _ (start : Proc) (drawn : List ℕ) (agents : List (Option Agent)) (table
 
   -- one more comes
   pub join_kept : (place : ℕ) (path : List ℕ) (env : Env) (p : Proc) → StandsAt d.places place p
-      → Keeps start drawn (agents ++ Some (running path env p) ∷ []) (with_thread tables) (joins d path place)
+      → Keeps start drawn (agents ++ Some (running path env p) ∷ []) (with_thread_fact tables) (joins d path place)
   join_kept place path env p stands = record {
     root = keeps.root;
     places = keeps.places;
@@ -140,7 +140,7 @@ module _ (start : Proc) (drawn : List ℕ) (agents : List (Option Agent)) (table
   }
 
   -- facts of the process come
-  pub pile_kept : (come : ℕ) → Keeps start drawn agents (with_pile tables come) (record d { facts = d.facts ++ numbers_from d.count come; count = d.count + come })
+  pub pile_kept : (come : ℕ) → Keeps start drawn agents (with_process_facts tables come) (record d { facts = d.facts ++ numbers_from d.count come; count = d.count + come })
   pile_kept come = record {
     root = keeps.root;
     places = keeps.places;

@@ -18,10 +18,10 @@ use Rattle.sap_runs.specs.declared.process_step.PStep.TheVariants as line
 use Rattle.sap_runs.specs.declared.rule_step.RStep.TheVariants.{Public, Apply}
 use Rattle.sap_translate.specs.relation.Agents.{Agent}
 use Rattle.sap_forward.specs.Answered.{IsAnswered}
-use Rattle.sap_forward.specs.Least.{not_drawn, numbers_below}
+use Rattle.sap_rule_lines.specs.Least.{not_drawn, numbers_below}
 use Rattle.sap_forward.specs.Linked.{Linked}
-use Rattle.sap_forward.specs.Tables.{Tables}
-use Rattle.sap_forward.specs.Written.{IsWritten}
+use Rattle.sap_forward.specs.Tables.{RuleTables}
+use Rattle.sap_forward.specs.Written.{IsWrittenAsRules}
 use Rattle.sap_forward.proofs.Lines.{one_line}
 use Rattle.sap_forward.proofs.Premises.{Laws}
 use Rattle.sap_forward.proofs.Advance.{IsLimit}
@@ -36,7 +36,7 @@ numbers_known known (k ∷ ks) (t ∷ ts) e =
     let rest = numbers_known known ks ts tail in
     (All-cons (Contains known) t ts (contains_got known t k head) rest.0, (let same = rest.1 in omega arith))
 
-module _ (laws : Laws) (g : Sig) (W : Tree → Type 0) (p q : Proc) (hold : HoldsBuiltins g) (ready : IsReady g p) (small : node_count p < 2 ^ 64) (annotated : IsAnnotation p q) (drawn : List ℕ) (agents : List (Option Agent)) (c : Config) (es : List Tree) (tr : Trace) (s : RuleState) (full : Trace) (tables : Tables) (lk : Linked g W q drawn tables agents c es tr s full) (limit : IsLimit g W) where
+module _ (laws : Laws) (g : Sig) (W : Tree → Type 0) (p q : Proc) (hold : HoldsBuiltins g) (ready : IsReady g p) (small : node_count p < 2 ^ 64) (annotated : IsAnnotation p q) (drawn : List ℕ) (agents : List (Option Agent)) (c : Config) (es : List Tree) (tr : Trace) (s : RuleState) (full : Trace) (tables : RuleTables) (lk : Linked g W q drawn tables agents c es tr s full) (limit : IsLimit g W) where
   pub writes_here : (a : List ℕ) → IsAnswered g W q drawn agents c tables s full (line.Public a) c (es ++ public a ∷ []) (tr ++ shown []) (marks_of [] [])
   writes_here a =
       let h = laws.follows_public g p q hold ready small annotated agents None c tr s full (record { reached = lk.rest.reached; ran = lk.rest.ran; related = lk.rest.related }) a in
@@ -46,7 +46,7 @@ module _ (laws : Laws) (g : Sig) (W : Tree → Type 0) (p q : Proc) (hold : Hold
         behind = tables;
         state = gains s (public a);
         more = [] ∷ [];
-        written = IsWritten.writes a;
+        written = IsWrittenAsRules.writes a;
         legal = one_line (refl, refl);
         linked = record {
           rest = record { reached = h.together.reached; ran = h.together.ran; related = h.together.related; started = lk.rest.started; calm = lk.rest.calm };
@@ -74,7 +74,7 @@ module _ (laws : Laws) (g : Sig) (W : Tree → Type 0) (p q : Proc) (hold : Hold
         behind = tables;
         state = gains s x;
         more = [] ∷ [];
-        written = IsWritten.applies f ks;
+        written = IsWrittenAsRules.applies f ks;
         legal = one_line (record { terms = ts; form = x; public_symbol = is_public; arity = arity; entries = entries'; is_form = form; within = within; silent = refl; becomes = refl });
         linked = record {
           rest = record { reached = h.together.reached; ran = h.together.ran; related = h.together.related; started = lk.rest.started; calm = lk.rest.calm };

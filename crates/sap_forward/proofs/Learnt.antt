@@ -25,18 +25,18 @@ use Rattle.sap_runs.specs.declared.process_step.PStep.TheVariants as line
 use Rattle.sap_runs.specs.declared.rule_step.RStep.TheVariants.{Learn, Know, Rule as RuleLine}
 use Rattle.sap_lines.specs.Lines.{EvaluateWithin}
 use Rattle.sap_steps.specs.Lines.{IsLine}
-use Rattle.sap_translate.specs.Templates as rules
-use Rattle.sap_translate.specs.Templates.{rules_of, first_of}
+use Rattle.sap_templates.specs.Templates as rules
+use Rattle.sap_templates.specs.Templates.{rules_of, first_of}
 use Rattle.sap_translate.specs.relation.Agents.{Agent, running}
 use Rattle.sap_translate.specs.relation.Answers.{AtRest, term_under, under, trades, gets, goes_on, at_first}
 use Rattle.sap_translate.specs.relation.Answered as case
 use Rattle.sap_translate.specs.relation.Envs.{Env, names, filled}
 use Rattle.sap_translate.specs.relation.RuleMoves as move
 use Rattle.sap_forward.specs.Answered.{IsAnswered, AreLines}
-use Rattle.sap_forward.specs.Least.{not_drawn, numbers_below}
+use Rattle.sap_rule_lines.specs.Least.{not_drawn, numbers_below}
 use Rattle.sap_forward.specs.Linked.{Linked, EnvWithin, MadeFor}
-use Rattle.sap_forward.specs.Tables.{Tables}
-use Rattle.sap_forward.specs.Written.{IsWritten, moved, with_facts}
+use Rattle.sap_forward.specs.Tables.{RuleTables}
+use Rattle.sap_forward.specs.Written.{IsWrittenAsRules, moved, with_facts}
 use Rattle.sap_forward.proofs.Evaluated.{rule_within, first_within, rest_within, form_within}
 use Rattle.sap_forward.proofs.Lines.{lines_of, one_line, lines_join, used_line, given_line}
 use Rattle.sap_forward.proofs.Premises.{Laws}
@@ -54,7 +54,7 @@ learnt laws g p q hold ready small annotated agents d tr z full k x rest e =
 pub learnt_line : (W : Tree → Type 0) (g : Sig) (rs : List Rule) (z : RuleState) (k n : ℕ) (x : Tree) → slice_get z.facts k ≡ Some (Some (out_fact x)) → k ≡ n → IsLine g rs W z (Learn n) [] (gains (leaves z (slice_set z.facts k None)) x)
 learnt_line W g rs z k n x e same = subst (λ i. IsLine g rs W z (Learn i) [] (gains (leaves z (slice_set z.facts k None)) x)) same (x, record { rest = slice_set z.facts k None; takes = one e nothing; silent = refl; becomes = refl })
 
-module _ (laws : Laws) (g : Sig) (W : Tree → Type 0) (p q : Proc) (hold : HoldsBuiltins g) (ready : IsReady g p) (small : node_count p < 2 ^ 64) (annotated : IsAnnotation p q) (drawn : List ℕ) (agents : List (Option Agent)) (c : Config) (es : List Tree) (tr : Trace) (s : RuleState) (full : Trace) (tables : Tables) (lk : Linked g W q drawn tables agents c es tr s full) where
+module _ (laws : Laws) (g : Sig) (W : Tree → Type 0) (p q : Proc) (hold : HoldsBuiltins g) (ready : IsReady g p) (small : node_count p < 2 ^ 64) (annotated : IsAnnotation p q) (drawn : List ℕ) (agents : List (Option Agent)) (c : Config) (es : List Tree) (tr : Trace) (s : RuleState) (full : Trace) (tables : RuleTables) (lk : Linked g W q drawn tables agents c es tr s full) where
   pub outputs_here : (t : ℕ) (path : List ℕ) (env : Env) (m x : Tree) (u : Proc) → slice_get agents t ≡ Some (Some (running path env (act (action.out m) u))) → IsNormalForm (equations g) (term_under env m) x → EvaluateWithin g W (term_under env m ∷ [])
       → IsAnswered g W q drawn agents c tables s full (line.Out t) (sends_out (becomes c t (Some (under env u))) x) (es ++ x ∷ []) (tr ++ shown []) (marks_of [] [])
   outputs_here t path env m x u is fx heads =
@@ -88,7 +88,7 @@ module _ (laws : Laws) (g : Sig) (W : Tree → Type 0) (p q : Proc) (hold : Hold
         behind = moved tables t 1;
         state = z;
         more = [] ∷ [] ∷ [];
-        written = IsWritten.outputs t k path env m u sits.1;
+        written = IsWrittenAsRules.outputs t k path env m u sits.1;
         legal = lines_join l1 (one_line (learnt_line W g (rules_of q) z1 N tables.count x there_is (sym lk.tabled.count)));
         linked = record {
           rest = subst (λ i. AtRest g q later d (tr ++ []) z i) (append_assoc full ([] ∷ []) ([] ∷ [])) rest;
@@ -152,7 +152,7 @@ module _ (laws : Laws) (g : Sig) (W : Tree → Type 0) (p q : Proc) (hold : Hold
         behind = moved tables t 2;
         state = z;
         more = (k_fact x ∷ []) ∷ (input_fact x ∷ []) ∷ [] ∷ [];
-        written = IsWritten.outputs_on t k j path env m n u sits.1;
+        written = IsWrittenAsRules.outputs_on t k j path env m n u sits.1;
         legal = lines_join l1 (one_line (learnt_line W g (rules_of q) z1 (N + 1) (tables.count + 1) y there_is (ap (λ i. i + 1) (sym lk.tabled.count))));
         linked = record {
           rest = subst (λ i. AtRest g q later d (tr ++ shown (k_fact x ∷ [])) z i) (append_assoc full ((k_fact x ∷ []) ∷ (input_fact x ∷ []) ∷ []) ([] ∷ [])) rest;
@@ -183,7 +183,7 @@ module _ (laws : Laws) (g : Sig) (W : Tree → Type 0) (p q : Proc) (hold : Hold
         behind = with_facts tables 1;
         state = z;
         more = (k_fact x ∷ []) ∷ [];
-        written = IsWritten.knows j;
+        written = IsWrittenAsRules.knows j;
         legal = lines_of W g (rules_of q) s z (move.gives x ∷ []) (Know j ∷ []) ((k_fact x ∷ []) ∷ []) ((λ a w h. given_line W g (rules_of q) (laws.named q) s w a j x e' h), (λ w. tt)) ans.rules;
         linked = record {
           rest = ans.rest;

@@ -5,7 +5,6 @@ pub mod Given
 pub mod Premises
 pub mod Standing
 pub mod Moves
-pub mod Marked
 pub mod Advance
 pub mod Limited
 pub mod Plain
@@ -28,7 +27,6 @@ pub mod Going
 pub mod Looped
 pub mod OneAnswer
 pub mod Lists
-pub mod NameSets
 pub mod Seated
 pub mod Keeping
 pub mod WritesOne

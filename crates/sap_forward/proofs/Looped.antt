@@ -17,8 +17,9 @@ use Rattle.sap_lines.specs.declared.fault.PFault.{PFault}
 use Rattle.sap_calc.specs.Replays.{AreDone, DoneLinesAreLegal}
 use Rattle.sap_calc.specs.Running.{Running, configuration}
 use Rattle.sap_forward.specs.Answered.{Draws}
-use Rattle.sap_forward.specs.Converted.{IsConverted, IsFirstRefusedOfProcess, IsShownByLines}
-use Rattle.sap_forward.specs.Least.{names_drawn}
+use Rattle.sap_forward.specs.Converted.{IsConvertedToRules, IsFirstRefusedOfProcess, IsShownByLines}
+use Rattle.sap_rule_lines.specs.Least.{names_drawn}
+use Rattle.sap_rule_lines.specs.RuleLines.{head_for, init_line}
 use Rattle.sap_forward.specs.code.Begun.{IsBegun, GoesOn, EndsConverted}
 use Rattle.sap_forward.specs.code.Taken.{AreDoneUntil, IsTaken, IsShown, IsRefusedAt}
 use Rattle.sap_forward.specs.declared.desk.Desk.{Desk}
@@ -75,13 +76,18 @@ pub refused_here : {g : Sig} {q : Proc} {drawn : List ℕ} {r : Running} {d : De
 refused_here {r = r} run k n step fault got b h =
     first_refused b.legal run (drop (k + 1) run) step r (cut_got run k step got) b.sig refl refl (k + 1) n fault (ap (λ m. m + 1) (sym (length_before run k step got))) h
 
-pub all_converted : {g : Sig} {q : Proc} {r : Running} {d : Desk} {written : List RStep} → EndsConverted g q → (run : List PStep) → (length run ≡ 0 → ⊥) → IsBegun g q (names_drawn run) run r d written → IsConverted g q run written
-all_converted ends [] some b = absurd (some refl)
-all_converted {r = r} {d = d} {written = written} ends (step ∷ lines) some b = ends step lines r d written b
+pub all_converted : {g : Sig} {q : Proc} {r : Running} {d : Desk} {head written : List RStep} → EndsConverted g q → (run : List PStep) → head ≡ head_for run → (length head ≡ 0 → ⊥) → IsBegun g q (names_drawn run) run r d written → IsConvertedToRules g q run written
+all_converted ends [] is some b = absurd (some (ap length is))
+all_converted {r = r} {d = d} {written = written} ends (step ∷ lines) is some b = ends step lines r d written b
 
-pub none_converted : {g : Sig} {q : Proc} → IsConverted g q [] [] → (run : List PStep) (written : List RStep) → length run ≡ 0 → written ≡ [] → IsConverted g q run written
-none_converted {g = g} {q = q} h [] written none is = subst (λ x. IsConverted g q [] x) (sym is) h
-none_converted h (step ∷ lines) written none is = absurd (omega arith)
+-- what stands before all lines is the one that starts the rules, unless there are none
+pub headed : {written : List RStep} (run : List PStep) → written ≡ head_for run → (length written ≡ 0 → ⊥) → written ≡ init_line ∷ []
+headed [] is some = absurd (some (ap length is))
+headed (step ∷ lines) is some = is
+
+pub none_converted : {g : Sig} {q : Proc} → IsConvertedToRules g q [] [] → (run : List PStep) (written : List RStep) → written ≡ head_for run → length written ≡ 0 → IsConvertedToRules g q run written
+none_converted {g = g} {q = q} h [] written is none = subst (λ x. IsConvertedToRules g q [] x) (sym is) h
+none_converted h (step ∷ lines) written is none = absurd (let one : length written ≡ 1 = ap length is in omega (arith, one, none))
 
 -- of traces
 

@@ -32,21 +32,21 @@ use Rattle.sap_lines.specs.Answers.{MatchesExactly}
 use Rattle.sap_lines.specs.Lines.{EvaluateWithin}
 use Rattle.sap_lines.specs.Runs.{CanGiveEach}
 use Rattle.sap_steps.specs.Lines.{IsLine}
-use Rattle.sap_translate.specs.ChannelFacts.{msg_fact, ack_fact}
+use Rattle.sap_templates.specs.ChannelFacts.{msg_fact, ack_fact}
 use Rattle.sap_translate.specs.Members.{Member}
 use Rattle.sap_translate.specs.Scoped.{Within, EachWithin}
-use Rattle.sap_translate.specs.Templates as rules
-use Rattle.sap_translate.specs.Templates.{rules_of, first_of}
+use Rattle.sap_templates.specs.Templates as rules
+use Rattle.sap_templates.specs.Templates.{rules_of, first_of}
 use Rattle.sap_translate.specs.relation.Agents.{Agent, running}
 use Rattle.sap_translate.specs.relation.Answers.{term_under, under, widened, goes_on, at_first}
 use Rattle.sap_translate.specs.relation.Answered as case
 use Rattle.sap_translate.specs.relation.Envs.{Env, names, values, filled, just, join, bind}
 use Rattle.sap_translate.specs.relation.RuleMoves as move
 use Rattle.sap_forward.specs.Answered.{IsAnswered}
-use Rattle.sap_forward.specs.Least.{not_drawn, numbers_below}
+use Rattle.sap_rule_lines.specs.Least.{not_drawn, numbers_below}
 use Rattle.sap_forward.specs.Linked.{Linked, EnvWithin}
-use Rattle.sap_forward.specs.Tables.{Tables, AreTables}
-use Rattle.sap_forward.specs.Written.{IsWritten, moved, gives}
+use Rattle.sap_forward.specs.Tables.{RuleTables, AreRuleTables}
+use Rattle.sap_forward.specs.Written.{IsWrittenAsRules, moved, gives}
 use Rattle.sap_forward.proofs.Evaluated.{Evaluates, rule_within, first_within, rest_within, form_within, var_within}
 use Rattle.sap_forward.proofs.Given.{next_from, next_given, free_one}
 use Rattle.sap_forward.proofs.Lines.{lines_of, used_line, made_line}
@@ -135,7 +135,7 @@ met_stay facts N j k long h0 h1 h2 h3 nb na i f apart e = elim (halves (slice_se
     high (suc (suc (suc (suc zero)))) at h = newest (let e3 = length_set facts k None in omega arith) (cc)
     high (suc (suc (suc (suc (suc m))))) at h = absurd (cc)
 
-module _ (laws : Laws) (g : Sig) (W : Tree → Type 0) (p q : Proc) (hold : HoldsBuiltins g) (ready : IsReady g p) (small : node_count p < 2 ^ 64) (annotated : IsAnnotation p q) (drawn : List ℕ) (agents : List (Option Agent)) (c : Config) (es : List Tree) (tr : Trace) (s : RuleState) (full : Trace) (tables : Tables) (lk : Linked g W q drawn tables agents c es tr s full) (limit : IsLimit g W) (can : CanGiveEach g c es) (exact : MatchesExactly g c es) where
+module _ (laws : Laws) (g : Sig) (W : Tree → Type 0) (p q : Proc) (hold : HoldsBuiltins g) (ready : IsReady g p) (small : node_count p < 2 ^ 64) (annotated : IsAnnotation p q) (drawn : List ℕ) (agents : List (Option Agent)) (c : Config) (es : List Tree) (tr : Trace) (s : RuleState) (full : Trace) (tables : RuleTables) (lk : Linked g W q drawn tables agents c es tr s full) (limit : IsLimit g W) (can : CanGiveEach g c es) (exact : MatchesExactly g c es) where
   pub meets_here : (a b : ℕ) (path at : List ℕ) (env other : Env) (m n l r : Tree) (u w : Proc) (σ : Choice) → slice_get agents a ≡ Some (Some (running path env (act (action.send m n) u))) → slice_get agents b ≡ Some (Some (running at other (act (action.receive l r) w)))
       → Runs c a (act (action.send (term_under env m) (term_under env n)) (under env u)) → Runs c b (act (action.receive (term_under other l) (term_under other r)) (under other w))
       → IsTheoryEqual (equations g) (term_under env m) (term_under other l) → Fits g σ (term_under other r) (term_under env n) → EvaluateWithin g W (term_under env m ∷ term_under env n ∷ term_under other l ∷ [])
@@ -224,12 +224,12 @@ module _ (laws : Laws) (g : Sig) (W : Tree → Type 0) (p q : Proc) (hold : Hold
       -- thread b moves first, where fact j is still there, and then thread a
       let f2' : Pile = slice_set s.facts k None ++ None ∷ None ∷ None ∷ None ∷ Some nb ∷ [] in
       let l2' : length f2' ≡ N + 5 = length_join (slice_set s.facts k None) (None ∷ None ∷ None ∷ None ∷ Some nb ∷ []) ∙ (let e = length_set s.facts k None in omega arith) in
-      let mid : AreTables (goes_on agents b at wider w) c.facts f2' (moved tables b 4) = tables_move agents c.facts s.facts tables lk.tabled b k 4 f2' (running (first_of at) wider w) nb sits_b.1.number (stay_set s.facts k (None ∷ None ∷ None ∷ None ∷ Some nb ∷ [])) refl (l2' ∙ (omega arith))
+      let mid : AreRuleTables (goes_on agents b at wider w) c.facts f2' (moved tables b 4) = tables_move agents c.facts s.facts tables lk.tabled b k 4 f2' (running (first_of at) wider w) nb sits_b.1.number (stay_set s.facts k (None ∷ None ∷ None ∷ None ∷ Some nb ∷ [])) refl (l2' ∙ (omega arith))
       (get_right (slice_set s.facts k None) (None ∷ None ∷ None ∷ None ∷ Some nb ∷ []) 4 (N + 4) (Some nb) refl (let e = length_set s.facts k None in omega arith)) in
       let apart : a ≡ b → ⊥ = λ e. threads_apart c a b M V (under env u) (term_under other l) (term_under other r) (under other w) e runs_a runs_b in
       let number_a : slice_get (moved tables b 4).threads a ≡ Some j = get_other tables.threads b a (tables.count + 4) (λ e. apart (sym e)) ∙ sits_a.1.number in
       let stay : Stay f2' j f3 = met_stay s.facts N j k refl (fr_fact tg) (msg_fact (fresh tg) x v) (waits_fact path (values env ++ fresh tg ∷ [])) (ack_fact (fresh tg)) nb na in
-      let end : AreTables (goes_on (goes_on agents b at wider w) a path env u) c.facts f3 (moved (moved tables b 4) a 0) = tables_move (goes_on agents b at wider w) c.facts f2' (moved tables b 4) mid a j 0 f3 (running (first_of path) env u) na number_a stay refl (l3 ∙ (omega arith))
+      let end : AreRuleTables (goes_on (goes_on agents b at wider w) a path env u) c.facts f3 (moved (moved tables b 4) a 0) = tables_move (goes_on agents b at wider w) c.facts f2' (moved tables b 4) mid a j 0 f3 (running (first_of path) env u) na number_a stay refl (l3 ∙ (omega arith))
       (get_right (slice_set (slice_set f2 (N + 2) None) (N + 3) None) (Some na ∷ []) 0 (length f2' + 0) (Some na) refl (omega arith)) in
       subst (λ d. IsAnswered g W q drawn agents c tables s full (line.Sync a b) d es (tr ++ shown []) (marks_of [] [])) d_is
       (record {
@@ -238,7 +238,7 @@ module _ (laws : Laws) (g : Sig) (W : Tree → Type 0) (p q : Proc) (hold : Hold
         behind = gives (moved (moved tables b 4) a 0) tg;
         state = _;
         more = [] ∷ [] ∷ [] ∷ [] ∷ [];
-        written = IsWritten.meets a b j k tg path at env other m n l r σ u w sits_a.1 sits_b.1 next.1;
+        written = IsWrittenAsRules.meets a b j k tg path at env other m n l r σ u w sits_a.1 sits_b.1 next.1;
         legal = lines_of W g (rules_of q) s _ (move.makes_name tg ∷ move.uses r1 (j ∷ N ∷ []) (filled big_a) ∷ move.uses r2 (k ∷ (N + 1) ∷ []) (filled big_b) ∷ move.uses r3 ((N + 2) ∷ (N + 3) ∷ []) (filled big_a) ∷ [])
             (Fresh tg ∷ RuleLine r1.name (j ∷ tables.count ∷ []) [] ∷ RuleLine r2.name (k ∷ (tables.count + 1) ∷ []) [] ∷ RuleLine r3.name ((tables.count + 2) ∷ (tables.count + 3) ∷ []) [] ∷ []) ([] ∷ [] ∷ [] ∷ [] ∷ []) (
               (λ a z h. made_line W g (rules_of q) (laws.named q) s z a tg h),

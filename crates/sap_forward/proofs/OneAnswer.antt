@@ -17,7 +17,7 @@ use Rattle.sap_lines.specs.Lines.{IsProcessLine}
 use Rattle.sap_lines.specs.Runs.{IsLegalProcessRun, SmallProcessLinesAreLines, SmallProcessRunsAreLegal}
 use Rattle.sap_lines.specs.declared.fault.PFault.{PFault}
 use Rattle.sap_lines.specs.declared.fault.PFault.TheVariants.{Mem}
-use Rattle.sap_forward.specs.Answers.{HasSomeAnswer, LegalIsNotRefused, HasOneTrace, HasOneFirst}
+use Rattle.sap_forward.specs.Answers.{EachIsLegalOrRefused, LegalIsNotRefused, HasOneTrace, HasOneFirst}
 use Rattle.sap_forward.specs.Converted.{IsShownByLines, IsFirstRefusedOfProcess}
 
 -- lists that are put together at the end
@@ -182,5 +182,5 @@ module _ (outcome : ProcessLinesHaveOneOutcome) (answer : ProcessLinesHaveOneAns
     )
   ]
 
-  pub has_some_answer : HasSomeAnswer g q
+  pub has_some_answer : EachIsLegalOrRefused g q
   has_some_answer lines = some_from lines [] (initial q) [] [] [] IsLegalProcessRun.starts

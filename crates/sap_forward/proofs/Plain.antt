@@ -28,8 +28,8 @@ use Rattle.sap_runs.specs.declared.process_step.PStep.{PStep}
 use Rattle.sap_runs.specs.declared.process_step.PStep.TheVariants as line
 use Rattle.sap_lines.specs.Lines.{EvaluateWithin}
 use Rattle.sap_translate.specs.Scoped.{Within, AllWithin}
-use Rattle.sap_translate.specs.Templates as rules
-use Rattle.sap_translate.specs.Templates.{first_of, second_of}
+use Rattle.sap_templates.specs.Templates as rules
+use Rattle.sap_templates.specs.Templates.{first_of, second_of}
 use Rattle.sap_translate.specs.relation.Agents.{Agent, running}
 use Rattle.sap_translate.specs.relation.Answers.{term_under, under}
 use Rattle.sap_translate.specs.relation.Answered.{Agrees, Differs, Shows, Inserts, Deletes, Misses, Unlocks}
@@ -37,11 +37,11 @@ use Rattle.sap_translate.specs.relation.Envs.{Env, names, filled, chosen}
 use Rattle.sap_translate.specs.relation.ProcessMoves as process
 use Rattle.sap_forward.specs.Answered.{IsAnswered}
 use Rattle.sap_forward.specs.Linked.{Linked, EnvWithin}
-use Rattle.sap_forward.specs.Tables.{Tables}
-use Rattle.sap_forward.specs.Written.{IsWritten}
+use Rattle.sap_forward.specs.Tables.{RuleTables}
+use Rattle.sap_forward.specs.Written.{IsWrittenAsRules}
 use Rattle.sap_forward.proofs.Advance.{contains, place_sound, opens_at, state_within, law, stands_at, seated, plain}
 use Rattle.sap_forward.proofs.Evaluated.{Evaluates, rule_within, first_within, rest_within, form_within, all_within}
-use Rattle.sap_forward.proofs.Marked.{event_marks}
+use Rattle.sap_translate.proofs.Shared.Marked.{event_marks}
 use Rattle.sap_forward.proofs.Premises.{Laws}
 
 -- what is in the store stays within the limit
@@ -60,7 +60,7 @@ put_all : (laws : Laws) (env : Env) (ts : List Tree) → AllWithin (names env) t
 put_all laws env [] h = refl
 put_all laws env (t ∷ ts) h = λ i. laws.terms env t h.0 i ∷ put_all laws env ts h.1 i
 
-module _ (laws : Laws) (g : Sig) (W : Tree → Type 0) (p q : Proc) (hold : HoldsBuiltins g) (ready : IsReady g p) (small : node_count p < 2 ^ 64) (annotated : IsAnnotation p q) (drawn : List ℕ) (agents : List (Option Agent)) (c : Config) (es : List Tree) (tr : Trace) (s : RuleState) (full : Trace) (tables : Tables) (lk : Linked g W q drawn tables agents c es tr s full) where
+module _ (laws : Laws) (g : Sig) (W : Tree → Type 0) (p q : Proc) (hold : HoldsBuiltins g) (ready : IsReady g p) (small : node_count p < 2 ^ 64) (annotated : IsAnnotation p q) (drawn : List ℕ) (agents : List (Option Agent)) (c : Config) (es : List Tree) (tr : Trace) (s : RuleState) (full : Trace) (tables : RuleTables) (lk : Linked g W q drawn tables agents c es tr s full) where
   abbrev pub Goes : PStep → Config → List Fact → List Mark → Type 0
   Goes step d label ms = IsAnswered g W q drawn agents c tables s full step d es (tr ++ shown label) ms
 
@@ -86,7 +86,7 @@ module _ (laws : Laws) (g : Sig) (W : Tree → Type 0) (p q : Proc) (hold : Hold
       plain laws g W p q hold ready small annotated drawn agents c es tr s full tables lk t sits.0 path env body sits.1 (first_of path) env u wide (line.Then t) (process.agrees t) [] (becomes c t (Some (under env u))) (rules.then_rule path (names env) m n) (filled env) [] _ (marks_of (equal x y ∷ []) []) ans
       (record { vars = sym none; agrees = tt })
       (rule_within g W (filled env) (rules.then_rule path (names env) m n) (st, tt) ((put env m path sound.0 (first_within g W (term_under env m) (term_under env n ∷ []) heads), (put env n path sound.1 (rest_within g W (term_under env m) (term_under env n ∷ []) heads), tt)), tt) (st, tt))
-      refl refl refl lk.stored refl (IsWritten.agrees t sits.0 path env m n u v sits.1)
+      refl refl refl lk.stored refl (IsWrittenAsRules.agrees t sits.0 path env m n u v sits.1)
 
   pub differs_here : (t : ℕ) (path : List ℕ) (env : Env) (m n x y : Tree) (u v : Proc)
       → slice_get agents t ≡ Some (Some (running path env (whole.test m n u v))) → IsNormalForm (equations g) (term_under env m) x → IsNormalForm (equations g) (term_under env n) y → ¬ (x ≡ y) → EvaluateWithin g W (term_under env m ∷ term_under env n ∷ []) → Goes (line.Else t) (becomes c t (Some (under env v))) [] (marks_of (different x y ∷ []) [])
@@ -103,7 +103,7 @@ module _ (laws : Laws) (g : Sig) (W : Tree → Type 0) (p q : Proc) (hold : Hold
       plain laws g W p q hold ready small annotated drawn agents c es tr s full tables lk t sits.0 path env body sits.1 (second_of path) env v wide (line.Else t) (process.differs t) [] (becomes c t (Some (under env v))) (rules.else_rule path (names env) m n) (filled env) [] _ (marks_of (different x y ∷ []) []) ans
       (record { vars = sym none; agrees = tt })
       (rule_within g W (filled env) (rules.else_rule path (names env) m n) (st, tt) ((put env m path sound.0 (first_within g W (term_under env m) (term_under env n ∷ []) heads), (put env n path sound.1 (rest_within g W (term_under env m) (term_under env n ∷ []) heads), tt)), tt) (st, tt))
-      refl refl refl lk.stored refl (IsWritten.differs t sits.0 path env m n u v sits.1)
+      refl refl refl lk.stored refl (IsWrittenAsRules.differs t sits.0 path env m n u v sits.1)
 
   pub inserts_here : (t : ℕ) (path : List ℕ) (env : Env) (m n x y : Tree) (u : Proc)
       → slice_get agents t ≡ Some (Some (running path env (act (action.insert m n) u))) → IsNormalForm (equations g) (term_under env m) x → IsNormalForm (equations g) (term_under env n) y → EvaluateWithin g W (term_under env m ∷ term_under env n ∷ []) → Goes (line.Insert t) (stores (becomes c t (Some (under env u))) x (Some y)) [] (marks_of (inserted x y ∷ []) [])
@@ -120,7 +120,7 @@ module _ (laws : Laws) (g : Sig) (W : Tree → Type 0) (p q : Proc) (hold : Hold
       plain laws g W p q hold ready small annotated drawn agents c es tr s full tables lk t sits.0 path env body sits.1 (first_of path) env u wide (line.Insert t) (process.inserts t) [] (stores (becomes c t (Some (under env u))) x (Some y)) (rules.insert_rule path (names env) m n) (filled env) [] _ (marks_of (inserted x y ∷ []) []) ans
       (record { vars = sym none; agrees = tt })
       (rule_within g W (filled env) (rules.insert_rule path (names env) m n) (st, tt) ((put env m path sound.0 (first_within g W (term_under env m) (term_under env n ∷ []) heads), (put env n path sound.1 (rest_within g W (term_under env m) (term_under env n ∷ []) heads), tt)), tt) (st, tt))
-      refl refl refl (λ i v e. stored_small W c.store x y i v lk.stored (form_within g W (term_under env n) y [] (rest_within g W (term_under env m) (term_under env n ∷ []) heads) fy) e) refl (IsWritten.inserts t sits.0 path env m n u sits.1)
+      refl refl refl (λ i v e. stored_small W c.store x y i v lk.stored (form_within g W (term_under env n) y [] (rest_within g W (term_under env m) (term_under env n ∷ []) heads) fy) e) refl (IsWrittenAsRules.inserts t sits.0 path env m n u sits.1)
 
   pub deletes_here : (t : ℕ) (path : List ℕ) (env : Env) (m x : Tree) (u : Proc)
       → slice_get agents t ≡ Some (Some (running path env (act (action.delete m) u))) → IsNormalForm (equations g) (term_under env m) x → EvaluateWithin g W (term_under env m ∷ []) → Goes (line.Delete t) (stores (becomes c t (Some (under env u))) x None) [] (marks_of (deleted x ∷ []) [])
@@ -137,7 +137,7 @@ module _ (laws : Laws) (g : Sig) (W : Tree → Type 0) (p q : Proc) (hold : Hold
       plain laws g W p q hold ready small annotated drawn agents c es tr s full tables lk t sits.0 path env body sits.1 (first_of path) env u wide (line.Delete t) (process.deletes t) [] (stores (becomes c t (Some (under env u))) x None) (rules.delete_rule path (names env) m) (filled env) [] _ (marks_of (deleted x ∷ []) []) ans
       (record { vars = sym none; agrees = tt })
       (rule_within g W (filled env) (rules.delete_rule path (names env) m) (st, tt) ((put env m path sound heads, tt), tt) (st, tt))
-      refl refl refl (λ i v e. cleared_small W c.store x i v lk.stored e) refl (IsWritten.deletes t sits.0 path env m u sits.1)
+      refl refl refl (λ i v e. cleared_small W c.store x i v lk.stored e) refl (IsWrittenAsRules.deletes t sits.0 path env m u sits.1)
 
   pub misses_here : (t : ℕ) (path : List ℕ) (env : Env) (m x : Tree) (y : Var) (u v : Proc)
       → slice_get agents t ≡ Some (Some (running path env (whole.lookup m y u v))) → IsNormalForm (equations g) (term_under env m) x → c.store x ≡ None → EvaluateWithin g W (term_under env m ∷ []) → Goes (line.Missing t) (becomes c t (Some (under env v))) [] (marks_of (missing x ∷ []) [])
@@ -154,7 +154,7 @@ module _ (laws : Laws) (g : Sig) (W : Tree → Type 0) (p q : Proc) (hold : Hold
       plain laws g W p q hold ready small annotated drawn agents c es tr s full tables lk t sits.0 path env body sits.1 (second_of path) env v wide (line.Missing t) (process.misses t) [] (becomes c t (Some (under env v))) (rules.missing_rule path (names env) m) (filled env) [] _ (marks_of (missing x ∷ []) []) ans
       (record { vars = sym none; agrees = tt })
       (rule_within g W (filled env) (rules.missing_rule path (names env) m) (st, tt) ((put env m path sound.0 heads, tt), tt) (st, tt))
-      refl refl refl lk.stored refl (IsWritten.misses t sits.0 path env m y u v sits.1)
+      refl refl refl lk.stored refl (IsWrittenAsRules.misses t sits.0 path env m y u v sits.1)
 
   pub unlocks_here : (t : ℕ) (path : List ℕ) (env : Env) (m x : Tree) (l : ℕ) (u : Proc)
       → slice_get agents t ≡ Some (Some (running path env (act (action.unlock m l) u))) → IsNormalForm (equations g) (term_under env m) x → EvaluateWithin g W (term_under env m ∷ []) → Goes (line.Unlock t) (holding (becomes c t (Some (under env u))) x false) [] (marks_of (unlocked x ∷ []) [])
@@ -172,7 +172,7 @@ module _ (laws : Laws) (g : Sig) (W : Tree → Type 0) (p q : Proc) (hold : Hold
       plain laws g W p q hold ready small annotated drawn agents c es tr s full tables lk t sits.0 path env body sits.1 (first_of path) env u wide (line.Unlock t) (process.unlocks t) [] (holding (becomes c t (Some (under env u))) x false) (rules.unlock_rule path (names env) m l) (filled env) [] _ (marks_of (unlocked x ∷ []) []) ans
       (record { vars = sym none; agrees = tt })
       (rule_within g W (filled env) (rules.unlock_rule path (names env) m l) (st, tt) ((lock_named, (put env m path sound.0 heads, tt)), tt) (st, tt))
-      refl refl refl lk.stored refl (IsWritten.unlocks t sits.0 path env m l u sits.1)
+      refl refl refl lk.stored refl (IsWrittenAsRules.unlocks t sits.0 path env m l u sits.1)
 
   -- an event shows its fact
   pub shows_here : (t : ℕ) (path : List ℕ) (env : Env) (f h : Fact) (u : Proc) → slice_get agents t ≡ Some (Some (running path env (act (action.event f) u))) → IsFormOfFact (equations g) (instance_fact (chosen env) f) h
@@ -191,4 +191,4 @@ module _ (laws : Laws) (g : Sig) (W : Tree → Type 0) (p q : Proc) (hold : Hold
       plain laws g W p q hold ready small annotated drawn agents c es tr s full tables lk t sits.0 path env body sits.1 (first_of path) env u wide (line.Event t) (process.shows t) (h ∷ []) (becomes c t (Some (under env u))) (rules.event_rule path (names env) f) (filled env) [] (event_fact ∷ h ∷ []) (marks_of [] (h ∷ [])) ans
       (record { vars = sym none; agrees = tt })
       (rule_within g W (filled env) (rules.event_rule path (names env) f) (st, tt) (tt, (all_within g W (filled env) f.args (subst (λ ts. EvaluateWithin g W ts) (sym (put_all laws env f.args sound.1)) heads), tt)) (st, tt))
-      refl refl refl lk.stored (event_marks h free) (IsWritten.shows t sits.0 path env f u sits.1)
+      refl refl refl lk.stored (event_marks h free) (IsWrittenAsRules.shows t sits.0 path env f u sits.1)

@@ -30,10 +30,10 @@ use Rattle.sap_lines.specs.Answers.{RunsMatchExactly}
 use Rattle.sap_lines.specs.NamesPass.{NamesStandInRuns}
 use Rattle.sap_lines.specs.Runs.{ProcessLinesAreRuns, SmallProcessRunsAreLegal}
 use Rattle.sap_translate.specs.Opened.{left_open, opened}
-use Rattle.sap_translate.specs.Places.{root, scoped_place_at}
+use Rattle.sap_templates.specs.Places.{root, scoped_place_at}
 use Rattle.sap_translate.specs.Scoped.{FactsWithin, IsFree, Within}
 use Rattle.sap_translate.specs.Sound.{IsSound}
-use Rattle.sap_translate.specs.Templates.{init_rule, own_rules, rules_of}
+use Rattle.sap_templates.specs.Templates.{init_rule, own_rules, rules_of}
 use Rattle.sap_translate.specs.relation.Answered.{WhereAtRest, Starts, ShowsTheSame, Ends, Splits, CopiesFirst, CopiesMore, MakesName, Outputs, OutputsOn, Inputs, InputsOn, Meets, Agrees as TestAgrees, Differs, Shows, Inserts, Deletes, Finds, Misses, Locks, Unlocks, Embeds, AdversaryMakes, Knows}
 use Rattle.sap_translate.specs.relation.Answers.{term_under, widened}
 use Rattle.sap_translate.specs.relation.Envs.{Env, GoodEnv, chosen, filled, join, names}

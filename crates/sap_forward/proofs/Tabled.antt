@@ -5,8 +5,8 @@ use Rattle.std.proofs.lemmas.Option.{slice_get_within}
 use Rattle.sap_terms.specs.Piles.{Pile, Takes, nothing, one, used}
 use Rattle.sap_terms.specs.declared.fact.Fact.{Fact}
 use Rattle.sap_translate.specs.relation.Agents.{Agent}
-use Rattle.sap_forward.specs.Tables.{Tables, thread_fact, AreNumbers, AreTables}
-use Rattle.sap_forward.specs.Written.{moved, with_thread, with_facts, with_pile, numbers_from}
+use Rattle.sap_forward.specs.Tables.{RuleTables, thread_fact, AreNumbers, AreRuleTables}
+use Rattle.sap_forward.specs.Written.{moved, with_thread_fact, with_facts, with_process_facts, numbers_from}
 
 -- items of lists that are set, or joined
 
@@ -167,7 +167,7 @@ numbers_come wanted facts ns m f h is = record {
 
 -- the tables
 
-module _ (agents : List (Option Agent)) (pile facts : Pile) (tables : Tables) (h : AreTables agents pile facts tables) where
+module _ (agents : List (Option Agent)) (pile facts : Pile) (tables : RuleTables) (h : AreRuleTables agents pile facts tables) where
   -- the number of a thread, and its fact
   pub seat : (t : ℕ) (a : Agent) (f : Fact) → slice_get agents t ≡ Some (Some a) → thread_fact (Some a) ≡ Some f → (k : ℕ) × (slice_get tables.threads t ≡ Some k) × (slice_get facts k ≡ Some (Some f))
   seat t a f e stands =
@@ -181,7 +181,7 @@ module _ (agents : List (Option Agent)) (pile facts : Pile) (tables : Tables) (h
 
   -- a thread has another fact, which comes last of some, and the pile is another
   pub tables_turn : (t k come : ℕ) (later : Pile) (a : Agent) (f : Fact) (other : Pile) → slice_get tables.threads t ≡ Some k → StayOf tables.threads facts k later → AreNumbers other later tables.facts → thread_fact (Some a) ≡ Some f → length later ≡ length facts + come + 1 → slice_get later (length facts + come) ≡ Some (Some f)
-      → AreTables (slice_set agents t (Some a)) other later (moved tables t come)
+      → AreRuleTables (slice_set agents t (Some a)) other later (moved tables t come)
   tables_turn t k come later a f other mine stay numbers stands long there_is =
       let count = h.count in
       let same : length facts + come ≡ tables.count + come = omega arith in
@@ -197,10 +197,10 @@ module _ (agents : List (Option Agent)) (pile facts : Pile) (tables : Tables) (h
       apart_of i u j (here s e) n = absurd (let low = h.facts.given u j n in let count = h.count in omega arith)
       apart_of i u j (there s e) n = h.apart i u j e n
 
-  pub tables_move : (t k come : ℕ) (later : Pile) (a : Agent) (f : Fact) → slice_get tables.threads t ≡ Some k → Stay facts k later → thread_fact (Some a) ≡ Some f → length later ≡ length facts + come + 1 → slice_get later (length facts + come) ≡ Some (Some f) → AreTables (slice_set agents t (Some a)) pile later (moved tables t come)
+  pub tables_move : (t k come : ℕ) (later : Pile) (a : Agent) (f : Fact) → slice_get tables.threads t ≡ Some k → Stay facts k later → thread_fact (Some a) ≡ Some f → length later ≡ length facts + come + 1 → slice_get later (length facts + come) ≡ Some (Some f) → AreRuleTables (slice_set agents t (Some a)) pile later (moved tables t come)
   tables_move t k come later a f mine stay stands long there_is = tables_turn t k come later a f pile mine (λ i j g n. stay j g) (pile_stays t k later mine stay (omega arith)) stands long there_is
 
-  pub tables_end : (t k : ℕ) (later : Pile) → slice_get tables.threads t ≡ Some k → Stay facts k later → length later ≡ length facts → AreTables (slice_set agents t None) pile later tables
+  pub tables_end : (t k : ℕ) (later : Pile) → slice_get tables.threads t ≡ Some k → Stay facts k later → length later ≡ length facts → AreRuleTables (slice_set agents t None) pile later tables
   tables_end t k later mine stay long = record {
     threads = subst (λ w. AreNumbers w later tables.threads) (sym (map_set thread_fact agents t None)) (numbers_end (map thread_fact agents) facts later tables.threads t k h.threads mine stay (omega arith));
     facts = pile_stays t k later mine stay (omega arith);
@@ -208,7 +208,7 @@ module _ (agents : List (Option Agent)) (pile facts : Pile) (tables : Tables) (h
     count = h.count ∙ sym long;
   }
 
-  pub tables_come : (a : Agent) (f : Fact) → thread_fact (Some a) ≡ Some f → AreTables (agents ++ Some a ∷ []) pile (facts ++ Some f ∷ []) (with_thread tables)
+  pub tables_come : (a : Agent) (f : Fact) → thread_fact (Some a) ≡ Some f → AreRuleTables (agents ++ Some a ∷ []) pile (facts ++ Some f ∷ []) (with_thread_fact tables)
   tables_come a f stands = record {
     threads = subst (λ w. AreNumbers w (facts ++ Some f ∷ []) (tables.threads ++ tables.count ∷ [])) (ap (λ o. map thread_fact agents ++ o ∷ []) (sym stands) ∙ sym (map_push thread_fact agents (Some a)))
         (numbers_come (map thread_fact agents) facts tables.threads tables.count f h.threads h.count);
@@ -222,7 +222,7 @@ module _ (agents : List (Option Agent)) (pile facts : Pile) (tables : Tables) (h
       apart_of i u j (before e) n = h.apart i u j e n
 
   -- facts come that are no thread's and none of the pile
-  pub tables_stay : (come : ℕ) (later : Pile) → ((j : ℕ) (f : Fact) → slice_get facts j ≡ Some (Some f) → slice_get later j ≡ Some (Some f)) → length later ≡ length facts + come → AreTables agents pile later (with_facts tables come)
+  pub tables_stay : (come : ℕ) (later : Pile) → ((j : ℕ) (f : Fact) → slice_get facts j ≡ Some (Some f) → slice_get later j ≡ Some (Some f)) → length later ≡ length facts + come → AreRuleTables agents pile later (with_facts tables come)
   tables_stay come later stay long = record {
     threads = numbers_stay (map thread_fact agents) facts later tables.threads h.threads (λ t k f n e. stay k f e) (omega arith);
     facts = numbers_stay pile facts later tables.facts h.facts (λ t k f n e. stay k f e) (omega arith);
@@ -231,7 +231,7 @@ module _ (agents : List (Option Agent)) (pile facts : Pile) (tables : Tables) (h
   }
 
 -- facts of the process come
-pub pile_comes : (agents : List (Option Agent)) (right : List Fact) (pile facts : Pile) (tables : Tables) → AreTables agents pile facts tables → AreTables agents (pile ++ map Some right) (facts ++ map Some right) (with_pile tables (length right))
+pub pile_comes : (agents : List (Option Agent)) (right : List Fact) (pile facts : Pile) (tables : RuleTables) → AreRuleTables agents pile facts tables → AreRuleTables agents (pile ++ map Some right) (facts ++ map Some right) (with_process_facts tables (length right))
 pile_comes agents [] pile facts tables h = record {
   threads = subst (λ x. AreNumbers (map thread_fact agents) x tables.threads) (sym (append-nil facts)) h.threads;
   facts = subst (λ x. AreNumbers (pile ++ []) (facts ++ []) x) (sym (append-nil tables.facts)) (subst (λ x. AreNumbers x (facts ++ []) tables.facts) (sym (append-nil pile)) (subst (λ x. AreNumbers pile x tables.facts) (sym (append-nil facts)) h.facts));
@@ -239,7 +239,7 @@ pile_comes agents [] pile facts tables h = record {
   count = let count = h.count in let same : length (facts ++ []) ≡ length facts = ap length (append-nil facts) in omega arith;
 }
 pile_comes agents (f ∷ fs) pile facts tables h =
-    let first' : AreTables agents (pile ++ Some f ∷ []) (facts ++ Some f ∷ []) (one_more tables) = one_comes in
+    let first' : AreRuleTables agents (pile ++ Some f ∷ []) (facts ++ Some f ∷ []) (one_more tables) = one_comes in
     let rest = pile_comes agents fs (pile ++ Some f ∷ []) (facts ++ Some f ∷ []) (one_more tables) first' in
     let same : (tables.facts ++ tables.count ∷ []) ++ numbers_from (tables.count + 1) (length fs) ≡ tables.facts ++ (tables.count ∷ numbers_from (tables.count + 1) (length fs)) = append_assoc tables.facts (tables.count ∷ []) (numbers_from (tables.count + 1) (length fs)) in
     let pile_is : (pile ++ Some f ∷ []) ++ map Some fs ≡ pile ++ (Some f ∷ map Some fs) = append_assoc pile (Some f ∷ []) (map Some fs) in
@@ -251,13 +251,13 @@ pile_comes agents (f ∷ fs) pile facts tables h =
       count = let count = rest.count in let long = ap length facts_are in omega arith;
     }
   where
-    one_more : Tables → Tables
+    one_more : RuleTables → RuleTables
     one_more x = record x { facts = x.facts ++ x.count ∷ []; count = x.count + 1 }
 
     same_numbers : {w w2 x x2 : Pile} {n n2 : List ℕ} → w ≡ w2 → x ≡ x2 → n ≡ n2 → AreNumbers w x n → AreNumbers w2 x2 n2
     same_numbers {w = w} {w2 = w2} {x = x} {x2 = x2} {n = n} {n2 = n2} a b c k = subst (λ z. AreNumbers z x2 n2) a (subst (λ z. AreNumbers w z n2) b (subst (λ z. AreNumbers w x z) c k))
 
-    one_comes : AreTables agents (pile ++ Some f ∷ []) (facts ++ Some f ∷ []) (one_more tables)
+    one_comes : AreRuleTables agents (pile ++ Some f ∷ []) (facts ++ Some f ∷ []) (one_more tables)
     one_comes = record {
       threads = numbers_stay (map thread_fact agents) facts (facts ++ Some f ∷ []) tables.threads h.threads (λ t k g n e. get_left facts (Some f ∷ []) k (Some g) e) (let long = length_join facts (Some f ∷ []) in omega arith);
       facts = numbers_come pile facts tables.facts tables.count f h.facts h.count;

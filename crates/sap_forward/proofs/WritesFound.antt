@@ -19,8 +19,8 @@ use Rattle.sap_lines.specs.declared.form.Form.TheVariants.{Nil, Par, Rep, New, O
 use Rattle.sap_translate.specs.relation.Answers.{goes_on, widened}
 use Rattle.sap_translate.specs.relation.Envs.{just, join}
 use Rattle.sap_forward.specs.LinesFor.{uses}
-use Rattle.sap_forward.specs.Written.{IsWritten, moved, with_pile}
-use Rattle.sap_forward.specs.code.Desk.{Keeps, Writes}
+use Rattle.sap_forward.specs.Written.{IsWrittenAsRules, moved, with_process_facts}
+use Rattle.sap_forward.specs.code.Desk.{Keeps, WritesRules}
 use Rattle.sap_forward.specs.code.Steps.{Finds, Embeds, WritesAny, goes, piles, bound_var, right_count}
 use Rattle.sap_forward.specs.declared.desk.Desk.{Desk}
 use Rattle.sap_forward.proofs.Lists.{some_same, all_got}
@@ -69,8 +69,8 @@ found_term : (found : Option Term) (t : Term) → option_map tree found ≡ Some
 found_term None t h = absurd (cc)
 found_term (Some u) t h = let e = some_same h in ap Some (sym (term-tree u) ∙ ap term e ∙ term-tree t)
 
-pub writes_found : (d e : Desk) (t : ℕ) (found : Option Term) (before after : List RStep) → Finds d e t found before after → Writes d e (line.Found t) found before after
-writes_found d e t found before after finds g start drawn agents later c tables behind ls keeps (IsWritten.finds t' k path env m x v y b p q seated normal stored var value) binds =
+pub writes_found : (d e : Desk) (t : ℕ) (found : Option Term) (before after : List RStep) → Finds d e t found before after → WritesRules d e (line.Found t) found before after
+writes_found d e t found before after finds g start drawn agents later c tables behind ls keeps (IsWrittenAsRules.finds t' k path env m x v y b p q seated normal stored var value) binds =
     let h = has_seat start drawn agents tables d keeps t' k path env (lookup m y p q) seated in
     let form = lookup_form h.place.form _ _ p q m y (sym (keeps.places.places.procs h.seat.place h.place h.at.1) ∙ h.sits.proc) in
     let is = found_term found b.term (binds _ _ b refl) in
@@ -84,7 +84,7 @@ writes_found d e t found before after finds g start drawn agents later c tables 
     )
 
 pub writes_embedded : (d e : Desk) (t : ℕ) (ks : List ℕ) (b : List Binding) (before after : List RStep) → Embeds d e t ks b before after → WritesAny d e (line.Embedded t ks b) before after
-writes_embedded d e t ks b before after embeds found g start drawn agents later c tables behind ls keeps (IsWritten.embeds t' k ks' js b' path env l acts r σ p seated cited) binds =
+writes_embedded d e t ks b before after embeds found g start drawn agents later c tables behind ls keeps (IsWrittenAsRules.embeds t' k ks' js b' path env l acts r σ p seated cited) binds =
     let h = has_seat start drawn agents tables d keeps t' k path env (act (embedded l acts r) p) seated in
     let form = embedded_form h.place.form _ _ p l acts r (sym (keeps.places.places.procs h.seat.place h.place h.at.1) ∙ h.sits.proc) in
     let w = embeds h.seat h.place h.at in
@@ -95,6 +95,6 @@ writes_embedded d e t ks b before after embeds found g start drawn agents later 
     let wider = widened env σ (facts_vars (l ++ (acts ++ r))) in
     let gone = go_kept start drawn agents tables d keeps t' k 1 h.place.first 0 path wider (act (embedded l acts r) p) p h.seat h.sits first in (
       w.1 ∙ (λ i. before ++ uses (codes "Rule_") (a i) (n i ∷ numbers i) b' ∷ []),
-      subst (Keeps start drawn (goes_on agents t' path wider p) (with_pile (moved tables t' 0) (length r))) (sym (w.0 ∙ ap (piles (goes d t' h.seat 1 h.place.first 0)) come))
+      subst (Keeps start drawn (goes_on agents t' path wider p) (with_process_facts (moved tables t' 0) (length r))) (sym (w.0 ∙ ap (piles (goes d t' h.seat 1 h.place.first 0)) come))
           (pile_kept start drawn (goes_on agents t' path wider p) (moved tables t' 0) (goes d t' h.seat 1 h.place.first 0) gone (length r)),
     )

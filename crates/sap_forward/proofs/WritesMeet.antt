@@ -12,9 +12,9 @@ use Rattle.sap_translate.specs.relation.Agents.{Agent, running}
 use Rattle.sap_translate.specs.relation.Answers.{goes_on, widened}
 use Rattle.sap_translate.specs.relation.Envs.{Env}
 use Rattle.sap_forward.specs.LinesFor.{uses}
-use Rattle.sap_forward.specs.Written.{IsWritten, gives, moved}
+use Rattle.sap_forward.specs.Written.{IsWrittenAsRules, gives, moved}
 use Rattle.sap_forward.specs.code.Desk.{Keeps}
-use Rattle.sap_forward.specs.code.Steps.{IsAt, Gives, Meets, WritesAny, goes, meeting_lines}
+use Rattle.sap_forward.specs.code.Steps.{IsAt, GivesName, Meets, WritesAny, goes, meeting_lines}
 use Rattle.sap_lines.specs.declared.place.Place.{Place}
 use Rattle.sap_forward.specs.declared.desk.Desk.{Desk}
 use Rattle.sap_forward.specs.declared.seats.Seat.{Seat}
@@ -30,8 +30,8 @@ apart agents a b path at env other m u l r p q h i same =
     let e : running path env (act (send m u) p) ≡ running at other (act (receive l r) q) = some_same (some_same (sym h ∙ ap (slice_get agents) same ∙ i)) in
     cc
 
-pub writes_sync : (d f e : Desk) (a b n : ℕ) (before after : List RStep) → Gives d f n → Meets f e a b n before after → WritesAny d e (line.Sync a b) before after
-writes_sync d f e a b n before after given meets found g start drawn agents later c tables behind ls keeps (IsWritten.meets a' b' j k n' path at env other m u l r σ p q sender receiver next) binds =
+pub writes_sync : (d f e : Desk) (a b n : ℕ) (before after : List RStep) → GivesName d f n → Meets f e a b n before after → WritesAny d e (line.Sync a b) before after
+writes_sync d f e a b n before after given meets found g start drawn agents later c tables behind ls keeps (IsWrittenAsRules.meets a' b' j k n' path at env other m u l r σ p q sender receiver next) binds =
     let same = given_next start drawn agents tables d keeps n' n next given.0 in
     let tables2 = gives tables n' in
     let held = subst (Keeps start drawn agents tables2) (sym given.1) (gives_kept start drawn agents tables d keeps n' n same) in

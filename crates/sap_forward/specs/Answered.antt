@@ -21,15 +21,15 @@ use Rattle.sap_lines.specs.Lines.{IsProcessLine}
 use Rattle.sap_lines.specs.Runs.{CanGiveEach}
 use Rattle.sap_steps.specs.Lines.{IsLine}
 use Rattle.sap_steps.specs.Marks.{marks}
-use Rattle.sap_translate.specs.Templates.{rules_of}
+use Rattle.sap_templates.specs.Templates.{rules_of}
 use Rattle.sap_translate.specs.relation.Agents.{Agent, running}
 use Rattle.sap_translate.specs.relation.Answers.{gets}
 use Rattle.sap_translate.specs.relation.Envs.{no_env}
-use Rattle.sap_forward.specs.Least.{is_among, names_made, not_drawn, numbers_below}
+use Rattle.sap_rule_lines.specs.Least.{is_among, names_made, not_drawn, numbers_below}
 use Rattle.sap_forward.specs.Linked.{Linked}
-use Rattle.sap_forward.specs.Opposite.{init_line}
-use Rattle.sap_forward.specs.Tables.{Tables}
-use Rattle.sap_forward.specs.Written.{IsWritten}
+use Rattle.sap_rule_lines.specs.RuleLines.{init_line}
+use Rattle.sap_forward.specs.Tables.{RuleTables}
+use Rattle.sap_forward.specs.Written.{IsWrittenAsRules}
 
 -- each of these lines in turn is possible, from the first state on; the last leads to the last state, and this is shown, time by time
 pub data AreLines (W : Tree → Type 0) (g : Sig) (rules : List Rule) : RuleState → List RStep → Trace → RuleState → Type 0 where
@@ -38,13 +38,13 @@ pub data AreLines (W : Tree → Type 0) (g : Sig) (rules : List Rule) : RuleStat
 
 -- The lines of rules that are written for this line of the process are possible, from the state on, at most four, and have the
 -- marks of the line; both sides are linked behind them, and of the names that they make those that no line draws are the next.
-pub record IsAnswered (g : Sig) (W : Tree → Type 0) (start : Proc) (drawn : List ℕ) (agents : List (Option Agent)) (c : Config) (tables : Tables) (s : RuleState) (full : Trace) (step : PStep) (d : Config) (fs : List Tree) (tr : Trace) (ms : List Mark) : Type 0 where
+pub record IsAnswered (g : Sig) (W : Tree → Type 0) (start : Proc) (drawn : List ℕ) (agents : List (Option Agent)) (c : Config) (tables : RuleTables) (s : RuleState) (full : Trace) (step : PStep) (d : Config) (fs : List Tree) (tr : Trace) (ms : List Mark) : Type 0 where
   pub lines : List RStep
   pub later : List (Option Agent)
-  pub behind : Tables
+  pub behind : RuleTables
   pub state : RuleState
   pub more : Trace
-  pub written : IsWritten g drawn agents c tables step lines later behind
+  pub written : IsWrittenAsRules g drawn agents c tables step lines later behind
   pub legal : AreLines W g (rules_of start) s lines more state
   pub linked : Linked g W start drawn behind later d fs tr state (full ++ more)
   pub marked : marks more ≡ ms
@@ -58,8 +58,8 @@ Draws drawn (Name n) = is_among drawn n ≡ true
 Draws drawn step = Unit {0}
 
 -- the tables once the rules have started: the first thread stands under the number of the first fact
-abbrev pub first_tables : Tables
-first_tables = record { threads = 0 ∷ []; facts = []; count = 1; next = 0 }
+abbrev pub first_rule_tables : RuleTables
+first_rule_tables = record { threads = 0 ∷ []; facts = []; count = 1; next = 0 }
 
 -- the state once the rules have started
 abbrev pub first_state : RuleState
@@ -68,11 +68,11 @@ first_state = gets empty_state (state_fact [] [] ∷ [])
 -- the first line is possible and links both sides, whatever is drawn
 pub record StartsLinked (g : Sig) (start : Proc) : Type 0 where
   pub line : IsLine g (rules_of start) HasFewNodes empty_state init_line (init_fact ∷ []) first_state
-  pub linked : (drawn : List ℕ) → Linked g HasFewNodes start drawn first_tables (Some (running [] no_env start) ∷ []) (initial start) [] [] first_state ((init_fact ∷ []) ∷ [])
+  pub linked : (drawn : List ℕ) → Linked g HasFewNodes start drawn first_rule_tables (Some (running [] no_env start) ∷ []) (initial start) [] [] first_state ((init_fact ∷ []) ∷ [])
 
 -- wherever both sides are linked, each line that is possible within the limit is answered
 abbrev pub LinesAreAnswered : Sig → Proc → Type 0
 LinesAreAnswered g start =
-    (drawn : List ℕ) (tables : Tables) (agents : List (Option Agent)) (c d : Config) (es fs : List Tree) (tr : Trace) (s : RuleState) (full : Trace) (step : PStep) (inner : List InnerAction) (label : List Fact)
+    (drawn : List ℕ) (tables : RuleTables) (agents : List (Option Agent)) (c d : Config) (es fs : List Tree) (tr : Trace) (s : RuleState) (full : Trace) (step : PStep) (inner : List InnerAction) (label : List Fact)
     → Linked g HasFewNodes start drawn tables agents c es tr s full → CanGiveEach g c es → MatchesExactly g c es → Draws drawn step → IsProcessLine g HasFewNodes c es step inner label d fs
     → IsAnswered g HasFewNodes start drawn agents c tables s full step d fs (tr ++ shown label) (marks_of inner label)

@@ -8,8 +8,8 @@ use Rattle.sap_lines.specs.declared.fault.PFault.{PFault}
 use Rattle.sap_forward.specs.Converted.{IsShownByLines, IsFirstRefusedOfProcess}
 
 -- each run is legal within the limit, or one line of it is the first that is refused
-abbrev pub HasSomeAnswer : Sig → Proc → Type 0
-HasSomeAnswer g start = (lines : List PStep) → ((tr : Trace) × IsShownByLines g start lines tr) ⊎ ((number : ℕ) × (fault : PFault) × IsFirstRefusedOfProcess g start lines number fault)
+abbrev pub EachIsLegalOrRefused : Sig → Proc → Type 0
+EachIsLegalOrRefused g start = (lines : List PStep) → ((tr : Trace) × IsShownByLines g start lines tr) ⊎ ((number : ℕ) × (fault : PFault) × IsFirstRefusedOfProcess g start lines number fault)
 
 -- and not both
 abbrev pub LegalIsNotRefused : Sig → Proc → Type 0

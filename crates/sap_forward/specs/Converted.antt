@@ -15,7 +15,7 @@ use Rattle.sap_lines.specs.declared.fault.PFault.{PFault}
 use Rattle.sap_lines.specs.declared.fault.PFault.TheVariants.{Mem}
 use Rattle.sap_translate.specs.LineCounts.{back_count}
 use Rattle.sap_forward.specs.Counted.{rule_count}
-use Rattle.sap_forward.specs.Opposite.{IsOpposite}
+use Rattle.sap_forward.specs.Opposite.{IsOppositeRuleRun}
 use Rattle.sap_forward.specs.RuleLinesPass.{BringNoName}
 
 -- the lines are a legal run of the process within the limit, with this trace
@@ -26,14 +26,14 @@ pub record IsShownByLines (g : Sig) (start : Proc) (lines : List PStep) (tr : Tr
   pub legal : IsLegalProcessRun g HasFewNodes start lines config entries tr marks
 
 -- the lines are a legal run of the process within the limit, and these of the rules are opposite to them
-pub record IsConverted (g : Sig) (start : Proc) (lines : List PStep)
+pub record IsConvertedToRules (g : Sig) (start : Proc) (lines : List PStep)
     (rule_lines : List RStep) : Type 0 where
   pub config : Config
   pub entries : List Tree
   pub trace : Trace
   pub marks : List Mark
   pub legal : IsLegalProcessRun g HasFewNodes start lines config entries trace marks
-  pub opposite : IsOpposite g start lines entries trace marks rule_lines
+  pub opposite : IsOppositeRuleRun g start lines entries trace marks rule_lines
   -- there are exactly so many, and as many lines as these stand opposite to them
   pub counted : length rule_lines ≡ rule_count lines
   pub back : back_count rule_lines ≡ length lines

@@ -2,7 +2,7 @@
 use Rattle.std.specs.Prelude.{◌+◌, ℕ, List, [], ◌∷◌, length, if◌then◌else◌}
 use Rattle.sap_runs.specs.declared.process_step.PStep.{PStep}
 use Rattle.sap_runs.specs.declared.process_step.PStep.TheVariants as line
-use Rattle.sap_forward.specs.Least.{is_among}
+use Rattle.sap_rule_lines.specs.Least.{is_among}
 
 -- how many stand opposite to a line, that aside with which a replication starts
 abbrev pub lines_for : PStep → ℕ

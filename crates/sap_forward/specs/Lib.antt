@@ -1,4 +1,3 @@
-pub mod Least
 pub mod Tables
 pub mod Linked
 pub mod LinesFor

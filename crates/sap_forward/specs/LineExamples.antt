@@ -5,7 +5,7 @@ use Rattle.sap_runs.specs.declared.process_step.PStep.TheVariants as line
 use Rattle.sap_runs.specs.declared.rule_step.RStep.{RStep}
 use Rattle.sap_runs.specs.declared.rule_step.RStep.TheVariants.{Fresh}
 use Rattle.sap_forward.specs.LinesFor.{uses}
-use Rattle.sap_forward.specs.Opposite.{init_line}
+use Rattle.sap_rule_lines.specs.RuleLines.{init_line}
 
 -- the lines of lock 's'; new ~x; unlock 's', which draws the name 0
 abbrev pub lock_and_new : List PStep

@@ -12,8 +12,8 @@ use Rattle.sap_lines.specs.Lines.{EvaluateWithin}
 use Rattle.sap_translate.specs.relation.Agents.{Agent, env_of}
 use Rattle.sap_translate.specs.relation.Answers.{AtRest}
 use Rattle.sap_translate.specs.relation.Envs.{Env, names}
-use Rattle.sap_forward.specs.Least.{is_among}
-use Rattle.sap_forward.specs.Tables.{Tables, AreTables}
+use Rattle.sap_rule_lines.specs.Least.{is_among}
+use Rattle.sap_forward.specs.Tables.{RuleTables, AreRuleTables}
 
 -- what is in scope stands for terms whose parts are within the limit
 abbrev pub EnvWithin : Sig → (Tree → Type 0) → Env → Type 0
@@ -27,10 +27,10 @@ pub data MadeFor (drawn : List ℕ) (next : ℕ) (c : Config) (n : ℕ) : Type 0
 
 -- A configuration with its entries and its trace, and a state of rules with its full trace, between two lines: both sides rest,
 -- the adversary knows the same on both, the tables are theirs, and all terms that they hold are within the limit.
-pub record Linked (g : Sig) (W : Tree → Type 0) (start : Proc) (drawn : List ℕ) (tables : Tables) (agents : List (Option Agent)) (c : Config) (es : List Tree) (tr : Trace) (s : RuleState) (full : Trace) : Type 0 where
+pub record Linked (g : Sig) (W : Tree → Type 0) (start : Proc) (drawn : List ℕ) (tables : RuleTables) (agents : List (Option Agent)) (c : Config) (es : List Tree) (tr : Trace) (s : RuleState) (full : Trace) : Type 0 where
   pub rest : AtRest g start agents c tr s full
   pub known : s.known ≡ es
-  pub tabled : AreTables agents c.facts s.facts tables
+  pub tabled : AreRuleTables agents c.facts s.facts tables
   pub made : (n : ℕ) → Contains s.made n → MadeFor drawn tables.next c n
   pub entries : (x : Tree) → Contains es x → W x
   pub envs : (t : ℕ) (a : Agent) → slice_get agents t ≡ Some (Some a) → EnvWithin g W (env_of a)

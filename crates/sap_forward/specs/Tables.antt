@@ -7,7 +7,7 @@ use Rattle.sap_translate.specs.relation.Agents.{Agent, unborn, running, copying,
 use Rattle.sap_translate.specs.relation.Envs.{values}
 
 -- the tables
-pub record Tables : Type 0 where
+pub record RuleTables : Type 0 where
   -- for each thread the number of the fact that stands for it, or of the last that did
   pub threads : List ℕ
   -- for each fact of the process its number
@@ -34,7 +34,7 @@ pub record AreNumbers (wanted : List (Option Fact)) (facts : Pile) (numbers : Li
   pub all : length numbers ≡ length wanted
 
 -- the tables are those of these threads and of this pile, where the state of rules has these facts now
-pub record AreTables (agents : List (Option Agent)) (pile now : Pile) (tables : Tables) : Type 0 where
+pub record AreRuleTables (agents : List (Option Agent)) (pile now : Pile) (tables : RuleTables) : Type 0 where
   pub threads : AreNumbers (map thread_fact agents) now tables.threads
   pub facts : AreNumbers pile now tables.facts
   pub apart : (t u k : ℕ) → slice_get tables.threads t ≡ Some k → slice_get tables.facts u ≡ Some k → ⊥

@@ -4,7 +4,7 @@ ghost use Rattle.sap_runs.specs.declared.process_step.PStep.TheVariants.{Name as
 ghost use Rattle.sap_forward.specs.code.Steps.{WritesAny};
 
 use crate::desk::Desk;
-use crate::rule_line::later;
+use sap_rule_lines::later;
 use sap_runs::{RStep, RSteps};
 use sap_terms::{Copied, Mem, Name, Numbers};
 use std::alloc::Global;

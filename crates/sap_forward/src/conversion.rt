@@ -4,10 +4,9 @@ ghost use Rattle.sap_locks.specs.Annotation.{IsAnnotation};
 ghost use Rattle.sap_process.specs.Proc.{Proc, node_count, proc};
 ghost use Rattle.sap_process.specs.Ready.{IsReady};
 ghost use Rattle.sap_terms.specs.Signature.{HoldsBuiltins, Sig};
-ghost use Rattle.sap_forward.specs.Converted.{IsConverted, IsFirstRefusedOfProcess};
-ghost use Rattle.sap_forward.specs.Answered.{first_tables};
-ghost use Rattle.sap_forward.specs.Least.{names_drawn};
-ghost use Rattle.sap_forward.specs.Opposite.{init_line};
+ghost use Rattle.sap_forward.specs.Converted.{IsConvertedToRules, IsFirstRefusedOfProcess};
+ghost use Rattle.sap_forward.specs.Answered.{first_rule_tables};
+ghost use Rattle.sap_rule_lines.specs.Least.{names_drawn};
 ghost use Rattle.sap_forward.specs.code.Desk.{Keeps};
 ghost use Rattle.sap_translate.specs.relation.Agents.{running};
 ghost use Rattle.sap_translate.specs.relation.Envs.{no_env};
@@ -29,8 +28,9 @@ use sap_locks::annotations_are_ready;
 use sap_read::File;
 use sap_restrict::restrictions_say_sentences;
 use sap_rewrite::normal_forms_are_unique;
-use sap_runs::{PStep, PSteps, RStep, RSteps};
-use sap_terms::{Bindings, Mem, Name, Numbers, Term};
+use sap_rule_lines::head_lines;
+use sap_runs::{PStep, PSteps, RSteps};
+use sap_terms::{Mem, Term};
 use sap_translate::process_steps_are_answered;
 use std::alloc::Global;
 
@@ -42,7 +42,7 @@ fn conversions_go_on()
         → IsAnnotation p q → GoesOn g q }
     ensures ends { (g : Sig) (p q : Proc) → HoldsBuiltins g → IsReady g p → node_count p < 2 ^ 64
         → IsAnnotation p q → EndsConverted g q }
-    ensures none { (g : Sig) (q : Proc) → IsConverted g q [] [] }
+    ensures none { (g : Sig) (q : Proc) → IsConvertedToRules g q [] [] }
 {
     lines_are_answered();
     process_steps_are_answered();
@@ -103,17 +103,9 @@ fn take_each(
     Ok(())
 }
 
-// The line that starts the rules.
-fn first_line(alloc: Global) -> Result<RStep, Mem>
-    ensures { IfOk result (λ line. line ≡ init_line) }
-{
-    let name = Name::from_bytes(alloc, b"Init")?;
-    Ok(RStep::Rule(name, Numbers::new(alloc), Bindings::new(alloc)))
-}
-
 // What is kept once the rules have started.
 fn first_desk(alloc: Global, f: &File, run: &PSteps) -> Result<Box<Desk>, Mem>
-    ensures { IfOk result (λ d. Keeps (proc f.now.process) (names_drawn run.now) (Some (running [] no_env (proc f.now.process)) ∷ []) first_tables d.value) }
+    ensures { IfOk result (λ d. Keeps (proc f.now.process) (names_drawn run.now) (Some (running [] no_env (proc f.now.process)) ∷ []) first_rule_tables d.value) }
 {
     Ok(Box::new(alloc, Desk::start(alloc, &f.process, run)?)?)
 }
@@ -127,16 +119,15 @@ fn first_desk(alloc: Global, f: &File, run: &PSteps) -> Result<Box<Desk>, Mem>
 /// instructions. It recurses as deep as the file's process and the terms of file and run.
 pub fn to_rules(alloc: Global, f: &File, run: &PSteps) -> Result<RSteps, At>
     requires { IsRunnable (told_by f.now) }
-    ensures ok { IfOk result (IsConverted f.now.signature (proc f.now.process) run.now) }
+    ensures ok { IfOk result (IsConvertedToRules f.now.signature (proc f.now.process) run.now) }
     ensures refused { (step : ℕ) (fault : Fault) → result ≡ Err (StepOf step fault)
         → IsFirstRefusedOfProcess f.now.signature (proc f.now.process) run.now step fault }
 {
     conversions_go_on();
-    let mut lines = RSteps::new(alloc);
-    if run.len() == 0 {
+    let mut lines = head_lines(alloc, run)?;
+    if lines.len() == 0 {
         return Ok(lines);
     }
-    lines.push(first_line(alloc)?)?;
     let mut config = started(alloc, f)?;
     let mut desk = first_desk(alloc, f, run)?;
     take_each(alloc, &mut config, &mut desk, &mut lines, run)?;

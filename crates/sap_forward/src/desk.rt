@@ -3,15 +3,15 @@ ghost use Rattle.std.specs.Prelude.{[], ◌∷◌, Some, IfOk, OnOk};
 ghost use Rattle.sap_process.specs.Proc.{proc};
 ghost use Rattle.sap_translate.specs.relation.Agents.{running};
 ghost use Rattle.sap_translate.specs.relation.Envs.{no_env};
-ghost use Rattle.sap_forward.specs.Answered.{first_tables};
-ghost use Rattle.sap_forward.specs.Least.{names_drawn};
-ghost use Rattle.sap_forward.specs.code.Desk.{Keeps, Writes};
+ghost use Rattle.sap_forward.specs.Answered.{first_rule_tables};
+ghost use Rattle.sap_rule_lines.specs.Least.{names_drawn};
+ghost use Rattle.sap_forward.specs.code.Desk.{Keeps, WritesRules};
 ghost use Rattle.sap_forward.specs.code.Steps.{WritesPlain};
 
-use crate::names::{Names, names_of};
 use crate::seats::Seats;
 use sap_lines::{Places, places_of};
 use sap_process::Process;
+use sap_rule_lines::{Names, names_of};
 use sap_runs::{PStep, PSteps, RStep, RSteps};
 use sap_terms::{Mem, Numbers, Term};
 use std::alloc::Global;
@@ -32,7 +32,7 @@ pub struct Desk {
 impl Desk {
     /// What is kept once the rules have started, for a run of these lines. Want of memory is the only error.
     pub(crate) fn start(alloc: Global, p: &Process, run: &PSteps) -> Result<Desk, Mem>
-        ensures { IfOk result (Keeps (proc p.now) (names_drawn run.now) (Some (running [] no_env (proc p.now)) ∷ []) first_tables) }
+        ensures { IfOk result (Keeps (proc p.now) (names_drawn run.now) (Some (running [] no_env (proc p.now)) ∷ []) first_rule_tables) }
     {
         let names = names_of(alloc, run)?;
         let (places, root) = places_of(alloc, p)?;
@@ -56,7 +56,7 @@ impl Desk {
         found: Option<Term>,
         lines: &mut RSteps,
     ) -> Result<(), Mem>
-        ensures { OnOk result (Writes self.old self.new step.now found lines.old lines.new) }
+        ensures { OnOk result (WritesRules self.old self.new step.now found lines.old lines.new) }
     {
         match step {
             PStep::Found(t) => self.bind(alloc, *t, found, lines),

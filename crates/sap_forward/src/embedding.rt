@@ -4,8 +4,8 @@ ghost use Rattle.sap_forward.specs.code.Steps as spec;
 ghost use Rattle.sap_forward.specs.code.Steps.{Embeds, piles};
 
 use crate::desk::Desk;
-use crate::rule_line::{later, push_rule};
 use sap_lines::Form;
+use sap_rule_lines::{later, push_rule};
 use sap_runs::RSteps;
 use sap_terms::{Bindings, Copied, Mem, Numbers};
 use std::alloc::Global;

@@ -5,8 +5,8 @@ ghost use Rattle.sap_forward.specs.code.Steps as spec;
 ghost use Rattle.sap_forward.specs.code.Steps.{WritesAny};
 
 use crate::desk::Desk;
-use crate::rule_line::later;
 use sap_lines::Form;
+use sap_rule_lines::later;
 use sap_runs::{RStep, RSteps};
 use sap_terms::Mem;
 use std::alloc::Global;

@@ -6,8 +6,8 @@ ghost use Rattle.sap_forward.specs.code.Steps as spec;
 ghost use Rattle.sap_forward.specs.code.Steps.{Finds};
 
 use crate::desk::Desk;
-use crate::rule_line::push_rule;
 use sap_lines::Form;
+use sap_rule_lines::push_rule;
 use sap_runs::RSteps;
 use sap_terms::{Binding, Bindings, Copied, Mem, Numbers, Sort, Term, Var};
 use std::alloc::Global;

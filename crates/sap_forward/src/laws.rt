@@ -1,10 +1,10 @@
 //! Laws of runs of processes and of their rules, as contracts of functions that only call the laws below.
 ghost use Rattle.std.specs.Prelude.{◌≡◌, ◌<◌, ◌^◌, ℕ, List};
 ghost use Rattle.sap_forward.specs.Answered.{LinesAreAnswered, StartsLinked};
-ghost use Rattle.sap_forward.specs.Answers.{HasOneFirst, HasOneTrace, HasSomeAnswer, LegalIsNotRefused};
-ghost use Rattle.sap_forward.specs.Least.{names_drawn, names_made, not_drawn, AreLeast};
+ghost use Rattle.sap_forward.specs.Answers.{HasOneFirst, HasOneTrace, EachIsLegalOrRefused, LegalIsNotRefused};
+ghost use Rattle.sap_rule_lines.specs.Least.{names_drawn, names_made, not_drawn, AreLeast};
 ghost use Rattle.sap_forward.specs.LineExamples.{lock_and_new, lock_then_new, made_early, new_then_lock, test_then_lock, with_names};
-ghost use Rattle.sap_forward.specs.Opposite.{HasOpposites, StandInTurn};
+ghost use Rattle.sap_forward.specs.Opposite.{HasOppositeRuleRuns, RuleLinesStandInTurn};
 ghost use Rattle.sap_locks.specs.Annotation.{IsAnnotation};
 ghost use Rattle.sap_process.specs.Proc.{Proc, node_count};
 ghost use Rattle.sap_process.specs.Ready.{IsReady};
@@ -61,7 +61,7 @@ pub fn lines_are_answered()
 /// ascending order, and what a line draws stays its own.
 pub fn legal_runs_have_lines_opposite()
     ensures { (g : Sig) (p q : Proc) → HoldsBuiltins g → IsReady g p → node_count p < 2 ^ 64 → IsAnnotation p q
-        → HasOpposites g q }
+        → HasOppositeRuleRuns g q }
 {
     lines_are_answered();
     process_steps_are_answered();
@@ -77,7 +77,7 @@ pub fn legal_runs_have_lines_opposite()
 /// first that is refused, for one cause that isn't want of memory, and not both; where the process is the annotation of one that
 /// is ready.
 pub fn process_runs_have_one_answer()
-    ensures some { (g : Sig) (p q : Proc) → HoldsBuiltins g → IsReady g p → IsAnnotation p q → HasSomeAnswer g q }
+    ensures some { (g : Sig) (p q : Proc) → HoldsBuiltins g → IsReady g p → IsAnnotation p q → EachIsLegalOrRefused g q }
     ensures apart { (g : Sig) (p q : Proc) → HoldsBuiltins g → IsReady g p → IsAnnotation p q
         → LegalIsNotRefused g q }
     ensures trace { (g : Sig) (p q : Proc) → HoldsBuiltins g → IsReady g p → IsAnnotation p q → HasOneTrace g q }
@@ -93,7 +93,7 @@ pub fn process_runs_have_one_answer()
 /// A law: where lines of rules stand in turn, the names of which they have Fr made, without those that a line of the process
 /// draws, are the least that none draws, in ascending order.
 pub fn names_are_least()
-    ensures { (lines : List PStep) (rule_lines : List RStep) → StandInTurn lines rule_lines
+    ensures { (lines : List PStep) (rule_lines : List RStep) → RuleLinesStandInTurn lines rule_lines
         → AreLeast (names_drawn lines) (not_drawn (names_drawn lines) (names_made rule_lines)) }
 {}
 
@@ -101,8 +101,8 @@ pub fn names_are_least()
 /// and it can't be otherwise; the lines of two threads don't change places; and Fr isn't made for a lock ahead of the lines of the
 /// line before it.
 pub fn turns_by_hand()
-    ensures right { StandInTurn lock_and_new (with_names 1 0) }
-    ensures no_other { (n m : ℕ) → StandInTurn lock_and_new (with_names n m) → (n ≡ 1) × (m ≡ 0) }
-    ensures in_order { (n m : ℕ) → ¬ StandInTurn lock_then_new (new_then_lock n m) }
-    ensures in_time { (n : ℕ) → ¬ StandInTurn test_then_lock (made_early n) }
+    ensures right { RuleLinesStandInTurn lock_and_new (with_names 1 0) }
+    ensures no_other { (n m : ℕ) → RuleLinesStandInTurn lock_and_new (with_names n m) → (n ≡ 1) × (m ≡ 0) }
+    ensures in_order { (n m : ℕ) → ¬ RuleLinesStandInTurn lock_then_new (new_then_lock n m) }
+    ensures in_time { (n : ℕ) → ¬ RuleLinesStandInTurn test_then_lock (made_early n) }
 {}

@@ -5,8 +5,8 @@ ghost use Rattle.sap_forward.specs.code.Steps as spec;
 ghost use Rattle.sap_forward.specs.code.Steps.{Meets, WritesAny};
 
 use crate::desk::Desk;
-use crate::rule_line::{later, push_rule_on_two};
 use crate::seats::Seat;
+use sap_rule_lines::{later, push_rule_on_two};
 use sap_runs::{RStep, RSteps};
 use sap_terms::Mem;
 use std::alloc::Global;

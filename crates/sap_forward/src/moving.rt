@@ -1,14 +1,14 @@
 // How threads go on at the desk.
 ghost use Rattle.std.specs.Prelude.{◌≡◌, ◌+◌, [], ◌∷◌, ◌++◌, Some, OnOk, MatchOption, slice_get};
 ghost use Rattle.sap_terms.specs.Path.{IsDigit};
-ghost use Rattle.sap_forward.specs.LinesFor.{uses};
+ghost use Rattle.sap_rule_lines.specs.RuleLines.{uses};
 ghost use Rattle.sap_forward.specs.code.Steps.{IsAt, HasNone, Goes, goes, joins, starts};
 ghost use Rattle.sap_forward.specs.declared.seats.Seat.{Seat as SeatType};
 
 use crate::desk::Desk;
-use crate::rule_line::{push_rule_on_one, push_rule_on_two};
 use crate::seats::Seat;
 use sap_lines::Place;
+use sap_rule_lines::{push_rule_on_one, push_rule_on_two};
 use sap_runs::{RStep, RSteps};
 use sap_terms::{Mem, Path};
 use std::alloc::Global;

@@ -1,7 +1,7 @@
 // Names that are given, and the line of a process by which a thread takes a lock.
 ghost use Rattle.std.specs.Prelude.{OnOk, IfOk};
 ghost use Rattle.sap_runs.specs.declared.process_step.PStep.TheVariants.{Lock as LockLine};
-ghost use Rattle.sap_forward.specs.code.Steps.{Gives, WritesAny};
+ghost use Rattle.sap_forward.specs.code.Steps.{GivesName, WritesAny};
 
 use crate::desk::Desk;
 use sap_runs::{RStep, RSteps};
@@ -11,7 +11,7 @@ use std::alloc::Global;
 impl Desk {
     // Gives the least name that is left, to a lock or a tag.
     pub(crate) fn give_name(&mut self) -> Result<u64, Mem>
-        ensures { IfOk result (Gives self.old self.new) }
+        ensures { IfOk result (GivesName self.old self.new) }
     {
         let name = self.names.free_from(self.next)?;
         self.next = name.checked_add(1).ok_or(Mem)?;

@@ -4,8 +4,8 @@ ghost use Rattle.sap_runs.specs.declared.process_step.PStep.TheVariants.{Rep as 
 ghost use Rattle.sap_forward.specs.code.Steps.{Ends, Splits, Copies, StartsCopying, WritesAny};
 
 use crate::desk::Desk;
-use crate::rule_line::push_rule_on_one;
 use sap_place::path_below;
+use sap_rule_lines::push_rule_on_one;
 use sap_runs::RSteps;
 use sap_terms::Mem;
 use std::alloc::Global;

@@ -27,7 +27,7 @@ use Rattle.sap_translate.specs.Scoped.{AllWithin, FactsWithin}
 use Rattle.sap_gen.specs.Moves.{IsMove, Move, Moves, IsPlain, IsAsTaken, AreAsTaken, ArePlain, IsShortened, IsShortening}
 use Rattle.sap_translate.specs.relation.Names.{same_var}
 use Rattle.sap_gen.proofs.Same.{same_var-refl, same_var-sound}
-use Rattle.sap_gen.proofs.Weights.{total-append}
+use Rattle.sap_translate.proofs.Shared.Totals.{total-append}
 use Rattle.sap_gen.proofs.OneOutcome.{one_outcome}
 use Rattle.sap_gen.proofs.Following.{counts-flat, carried-rules-show-the-same}
 use Rattle.sap_gen.proofs.Choices.{Agree, on_none, on_more, instance_agrees}

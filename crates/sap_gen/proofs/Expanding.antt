@@ -16,7 +16,7 @@ use Rattle.sap_gen.specs.Carried.{count, AreAlike, SettleTo, done, step}
 use Rattle.sap_rewrite.specs.Laws.{EachHasForm}
 use Rattle.sap_gen.specs.Moves.{IsMove}
 use Rattle.sap_gen.specs.Settled.{IsSettled, nothing_left, stays, goes_on}
-use Rattle.sap_gen.proofs.Weights.{total-append}
+use Rattle.sap_translate.proofs.Shared.Totals.{total-append}
 
 -- each fact has a form
 pub forms : EachHasForm → (e : Equations) (ts : List Tree) → (ns : List Tree) × AllZip (IsNormalForm e) ts ns

@@ -19,7 +19,9 @@ use Rattle.sap_terms.specs.Trace.{Trace, shown}
 use Rattle.sap_formula.specs.Filled.{filled}
 use Rattle.sap_translate.specs.relation.Totals.{total}
 use Rattle.sap_gen.specs.Carried.{count, counts, count_after, AreAlike, Stays, IsSilent, Carries, AreCarried, IsMatchedBy, SettleTo, done, step, AreExpanded, AreNormalFacts, HoldsNormal, IsFilledTrace, CarriedRulesShowTheSame}
-use Rattle.sap_gen.proofs.Weights.{adds_total, takes_total, linear_spent, total-append, total_found}
+use Rattle.sap_gen.proofs.Weights.{adds_total, linear_spent}
+use Rattle.sap_translate.proofs.Shared.Totals.{total-append, total_found}
+use Rattle.sap_translate.proofs.Shared.Takings.{takes_total}
 use Rattle.sap_translate.specs.relation.Names.{same_fact}
 use Rattle.sap_gen.proofs.Same.{same_fact-refl}
 use Rattle.sap_gen.proofs.Taking.{itself, Matches, take_too, take_one, Live, found_live, used_live}

@@ -16,10 +16,10 @@ use Rattle.sap_rule.specs.Variables.{rule_vars}
 use Rattle.sap_rule.specs.WellMade.{IsFactOver, IsRightFact, IsRuleOver, IsWellShaped}
 use Rattle.sap_rule.specs.declared.rule.Rule.{Rule}
 use Rattle.sap_translate.specs.Members.{Member, here, later}
-use Rattle.sap_translate.specs.Places.{root, scoped_place_at}
+use Rattle.sap_templates.specs.Places.{root, scoped_place_at}
 use Rattle.sap_translate.specs.Scoped.{AllWithin, FactsWithin, Within, EachWithin}
 use Rattle.sap_translate.specs.Sound.{SoundPlaces}
-use Rattle.sap_translate.specs.Templates.{nil_rule, out_rule, parallel_rule, rep_start_rule, state}
+use Rattle.sap_templates.specs.Templates.{nil_rule, out_rule, parallel_rule, rep_start_rule, state}
 use Rattle.sap_gen.specs.Settled.{IsSettled, nothing_left, stays, goes_on}
 use Rattle.sap_gen.specs.Short.{AreShort, no_rules, drops, keeps}
 use Rattle.sap_gen.specs.Silent.{silent_rule, IsSilentRule}

@@ -16,7 +16,7 @@ use Rattle.sap_theory.specs.ReadAgain.{PassesChecks}
 use Rattle.sap_theory.specs.TheoryCauses.{IsPlainRule, first_repeated, rule_names}
 use Rattle.sap_translate.specs.PlaceRules.{IsOfPlace}
 use Rattle.sap_translate.specs.Sound.{SoundPlaces}
-use Rattle.sap_translate.specs.Templates.{rules_of}
+use Rattle.sap_templates.specs.Templates.{rules_of}
 use Rattle.sap_gen.specs.Kept.{file_theory}
 use Rattle.sap_gen.specs.Settled.{IsSettled}
 use Rattle.sap_gen.specs.Short.{AreShort, no_rules, drops, keeps}

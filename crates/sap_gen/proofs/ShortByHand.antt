@@ -15,7 +15,7 @@ use Rattle.sap_translate.specs.OpenLocks.{UnlocksAreOpen}
 use Rattle.sap_translate.specs.PlaceRules.{IsOfPlace}
 use Rattle.sap_translate.specs.Scoped.{AreUnreserved}
 use Rattle.sap_translate.specs.Sound.{IsSound, SoundParts}
-use Rattle.sap_translate.specs.Templates.{init_rule, rules_of}
+use Rattle.sap_templates.specs.Templates.{init_rule, rules_of}
 use Rattle.sap_gen.specs.Short.{AreShort}
 use Rattle.sap_gen.specs.ShortExamples as example
 use Rattle.sap_gen.specs.code.SettledPlaces.{short_rules}

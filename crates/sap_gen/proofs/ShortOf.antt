@@ -3,7 +3,7 @@ use Rattle.std.proofs.Common.{◌≡◌, ◌<◌, ◌^◌, subst, arith}
 use Rattle.sap_process.specs.Proc.{node_count}
 use Rattle.sap_read.specs.Files.{FileContent, IsRunnable}
 use Rattle.sap_rule.specs.declared.theory.Theory.{Theory}
-use Rattle.sap_translate.specs.Templates.{rules_of}
+use Rattle.sap_templates.specs.Templates.{rules_of}
 use Rattle.sap_gen.specs.Kept.{file_theory}
 use Rattle.sap_gen.specs.ShortTheories.{IsShortTheory}
 use Rattle.sap_gen.specs.code.Shorter.{HasShortRules}

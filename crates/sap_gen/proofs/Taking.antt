@@ -8,7 +8,8 @@ use Rattle.sap_translate.specs.relation.Totals.{total}
 use Rattle.sap_gen.specs.Carried.{counts, count_after, Stays}
 use Rattle.sap_translate.specs.relation.Names.{same_fact}
 use Rattle.sap_gen.proofs.Same.{same_fact-refl, same_fact-sound}
-use Rattle.sap_gen.proofs.Weights.{total-set, Found, total_found, spent, used_total}
+use Rattle.sap_translate.proofs.Shared.Totals.{total-set, Found, total_found}
+use Rattle.sap_translate.proofs.Shared.Takings.{spent, used_total}
 
 -- as it is
 abbrev pub itself : Fact → List Fact
@@ -31,9 +32,9 @@ pub found_live : (ys : Pile) (f : Fact) → Found (count_after itself (same_fact
 found_live ys f x = go x.item refl
   where
     go : (o : Option Fact) → x.item ≡ o → Live ys f
-    go None e = absurd (let h : 0 < count_after itself (same_fact f) None = subst (λ i. 0 < count_after itself (same_fact f) i) e x.has in omega arith)
+    go None e = absurd (let h : 0 < count_after itself (same_fact f) None = subst (λ i. 0 < count_after itself (same_fact f) i) e x.counts in omega arith)
     go (Some g) e =
-        let h : 0 < count_after itself (same_fact f) (Some g) = subst (λ i. 0 < count_after itself (same_fact f) i) e x.has in
+        let h : 0 < count_after itself (same_fact f) (Some g) = subst (λ i. 0 < count_after itself (same_fact f) i) e x.counts in
         let here : f ≡ g = same_fact-sound f g (cond_pos (same_fact f g) h) in
         record { number = x.number; is = x.is ∙ ap (λ i. Some i) (e ∙ ap (λ i. Some i) (sym here)) }
 

@@ -19,9 +19,9 @@ use Rattle.sap_process.specs.Places.{place}
 use Rattle.sap_process.specs.Proc.{Proc, nil, parallel, replicated, act, test, lookup}
 use Rattle.sap_rule.specs.declared.rule.Rule.{Rule}
 use Rattle.sap_translate.specs.PlaceRules.{IsOfPlace}
-use Rattle.sap_translate.specs.Places.{root, scoped_place_at}
+use Rattle.sap_templates.specs.Places.{root, scoped_place_at}
 use Rattle.sap_translate.specs.Sound.{SoundPlaces}
-use Rattle.sap_translate.specs.Templates.{state, own_rules, init_rule, rules_of, nil_rule, out_rule, parallel_rule, rep_start_rule}
+use Rattle.sap_templates.specs.Templates.{state, own_rules, init_rule, rules_of, nil_rule, out_rule, parallel_rule, rep_start_rule}
 use Rattle.sap_translate.specs.relation.Names.{state_name}
 use Rattle.sap_translate.specs.relation.Totals.{total}
 use Rattle.sap_gen.specs.Moves.{AreAsTaken, IsAsTaken, Move}

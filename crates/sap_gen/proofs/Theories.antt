@@ -20,7 +20,7 @@ use Rattle.sap_rule.specs.declared.theory.Theory.{Theory}
 use Rattle.sap_translate.specs.Faithful.{IsShownBy, IsVisibleTrace}
 use Rattle.sap_translate.specs.PlaceRules.{IsOfPlace}
 use Rattle.sap_translate.specs.Sound.{IsSound, SoundPlaces}
-use Rattle.sap_translate.specs.Templates.{init_rule, rules_of}
+use Rattle.sap_templates.specs.Templates.{init_rule, rules_of}
 use Rattle.sap_gen.specs.Kept.{IsClosedTheory, IsKept, KeepsFile, file_theory}
 use Rattle.sap_gen.specs.Short.{AreShort}
 use Rattle.sap_gen.specs.ShortTheories.{IsShortTheory}

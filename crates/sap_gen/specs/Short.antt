@@ -3,7 +3,7 @@ use Rattle.std.specs.Prelude.{List, [], ◌∷◌}
 use Rattle.sap_process.specs.Proc.{Proc}
 use Rattle.sap_rule.specs.declared.rule.Rule.{Rule}
 use Rattle.sap_terms.specs.declared.fact.Fact.{Fact}
-use Rattle.sap_translate.specs.Templates.{rules_of}
+use Rattle.sap_templates.specs.Templates.{rules_of}
 use Rattle.sap_gen.specs.Settled.{IsSettled}
 use Rattle.sap_gen.specs.Silent.{IsSilentRule}
 

@@ -10,7 +10,7 @@ use Rattle.sap_process.specs.Proc.{Proc, nil, parallel, replicated, act, test, l
 use Rattle.sap_process.specs.Scopes.{lock_var}
 use Rattle.sap_restrict.specs.ReservedFacts.{init_fact, event_fact, input_fact, eq_fact, not_eq_fact, is_in_fact, is_not_set_fact, lock_fact}
 use Rattle.sap_rule.specs.declared.rule.Rule.{Rule}
-use Rattle.sap_translate.specs.ChannelFacts.{ack_fact, fresh_fact, msg_fact}
+use Rattle.sap_templates.specs.ChannelFacts.{ack_fact, fresh_fact, msg_fact}
 use Rattle.sap_translate.specs.Examples.{c, g_fact, plain_fact, term_a, term_b, term_k, term_m, term_s, x, y}
 use Rattle.sap_terms.specs.Equations.{app2, pair_name}
 

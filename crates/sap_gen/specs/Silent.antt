@@ -5,8 +5,8 @@ use Rattle.sap_process.specs.Action.{out}
 use Rattle.sap_process.specs.Places.{place}
 use Rattle.sap_process.specs.Proc.{Proc, nil, parallel, replicated, act}
 use Rattle.sap_rule.specs.declared.rule.Rule.{Rule}
-use Rattle.sap_translate.specs.Places.{root, scoped_place_at}
-use Rattle.sap_translate.specs.Templates.{nil_rule, out_rule, parallel_rule, rep_start_rule}
+use Rattle.sap_templates.specs.Places.{root, scoped_place_at}
+use Rattle.sap_templates.specs.Templates.{nil_rule, out_rule, parallel_rule, rep_start_rule}
 
 -- the rule by which control moves on from a silent place, where these variables are in scope: of `0`, of `|`, of an output that the
 -- adversary is given, and of a replication the one that starts it; other places have none

@@ -6,7 +6,7 @@ use Rattle.sap_process.specs.Proc.{Proc}
 use Rattle.sap_restrict.specs.Inline.{formulas, inlined}
 use Rattle.sap_restrict.specs.Restrictions.{needed_restrictions}
 use Rattle.sap_rule.specs.declared.theory.Theory.{Theory}
-use Rattle.sap_translate.specs.Templates.{rules_of}
+use Rattle.sap_templates.specs.Templates.{rules_of}
 
 -- the rules of the process; the restrictions that it needs, each under its name, before those of its file; and the lemmas of
 -- its file

@@ -2,7 +2,7 @@
 ghost use Rattle.sap_gen.specs.Short.{AreShortRulesOf};
 ghost use Rattle.sap_gen.specs.ShortExamples as example;
 ghost use Rattle.sap_translate.specs.Examples.{copied_twice};
-ghost use Rattle.sap_translate.specs.Templates.{rules_of};
+ghost use Rattle.sap_templates.specs.Templates.{rules_of};
 
 use sap_translate::{rules_are_found_by_name, sound_processes_are_shown};
 

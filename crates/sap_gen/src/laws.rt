@@ -14,7 +14,7 @@ ghost use Rattle.sap_read.specs.OwnNames.{HaveOwnNames, IsNamedApart};
 ghost use Rattle.sap_read.specs.Files.{FileContent, IsRunnable};
 ghost use Rattle.sap_read.specs.Printable.{IsPrintableFile};
 ghost use Rattle.sap_read.specs.declared.limits.TheConstants.{MOST_NEW_NAME_BYTES};
-ghost use Rattle.sap_translate.specs.Templates.{rules_of};
+ghost use Rattle.sap_templates.specs.Templates.{rules_of};
 ghost use Rattle.sap_rule.specs.declared.rule.Rule.{Rule};
 ghost use Rattle.sap_terms.specs.declared.fact.Fact.{Fact};
 ghost use Rattle.sap_terms.specs.declared.limits.TheConstants.{MOST_FILE_NAME_BYTES, MOST_THEORY_NAME_BYTES};

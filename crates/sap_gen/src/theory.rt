@@ -5,7 +5,7 @@ ghost use Rattle.sap_read.specs.Files.{told_by};
 ghost use Rattle.sap_restrict.specs.Inline.{formulas};
 ghost use Rattle.sap_restrict.specs.Restrictions.{needed_restrictions};
 ghost use Rattle.sap_gen.specs.Kept.{file_theory, inlined_file_theory};
-ghost use Rattle.sap_translate.specs.Templates.{rules_of};
+ghost use Rattle.sap_templates.specs.Templates.{rules_of};
 ghost use Rattle.sap_gen.specs.Theories as theories;
 
 use sap_formula::{Lemma, LemmaList, RestrictionList};
@@ -13,8 +13,8 @@ use sap_process::Process;
 use sap_read::File;
 use sap_restrict::{inline, needed_restrictions};
 use sap_rule::Theory;
+use sap_templates::generate;
 use sap_terms::{Copied, Mem};
-use sap_translate::generate;
 use std::alloc::Global;
 
 /// The theory of a file whose process is annotated: the file's name and signature, the rules of the process, the

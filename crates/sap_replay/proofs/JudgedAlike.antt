@@ -10,7 +10,7 @@ use Rattle.sap_runs.specs.Limits.{HasFewNodes}
 use Rattle.sap_runs.specs.declared.process_step.PStep.{PStep}
 use Rattle.sap_runs.specs.declared.rule_step.RStep.{RStep}
 use Rattle.sap_steps.specs.Runs.{IsLegalRun}
-use Rattle.sap_translate.specs.Templates.{rules_of}
+use Rattle.sap_templates.specs.Templates.{rules_of}
 use Rattle.sap_back.specs.Converted as back
 use Rattle.sap_replay.specs.Replays.{AreOpposite, IsSeen, of_process, of_rules, IsJudgedText}
 use Rattle.sap_replay.specs.Verdicts.{AreVerdicts, all_judged}

@@ -20,7 +20,7 @@ use Rattle.sap_runs.specs.Marks.{Mark}
 use Rattle.sap_runs.specs.declared.process_step.PStep.{PStep}
 use Rattle.sap_runs.specs.declared.rule_step.RStep.{RStep}
 use Rattle.sap_lines.specs.Runs.{IsLegalProcessRun}
-use Rattle.sap_translate.specs.Templates.{rules_of}
+use Rattle.sap_templates.specs.Templates.{rules_of}
 use Rattle.sap_back.specs.Converted as back
 use Rattle.sap_replay.specs.Replays.{IsSeen, of_process, of_rules, IsFullOf, of_theory}
 use Rattle.sap_replay.specs.RunRefusals as refused

@@ -17,7 +17,7 @@ use Rattle.sap_replay.specs.ToldRuns.{AreLinesOf, IsTextOfLines}
 use Rattle.sap_replay.proofs.ProcessRuns.{Laws, never_refused}
 
 module _ (laws : Laws) (annotated : (g : Sig) (p q : Proc) → IsReady g p → IsAnnotation p q → IsReady g q) (f : FileContent) (runnable : IsRunnable f)
-    (rule_lines : List RStep) (lines : List PStep) (c : back.IsConverted f.signature f.process rule_lines lines) where
+    (rule_lines : List RStep) (lines : List PStep) (c : back.IsConvertedToProcess f.signature f.process rule_lines lines) where
   ready : IsReady f.signature f.process
   ready = annotated f.signature runnable.process f.process runnable.ready runnable.annotation
 

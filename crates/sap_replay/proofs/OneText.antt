@@ -14,7 +14,7 @@ use Rattle.sap_read.specs.Files.{FileContent, IsRunnable}
 use Rattle.sap_rule.specs.WellMade.{IsWellMade}
 use Rattle.sap_rule.specs.declared.theory.Theory.{Theory}
 use Rattle.sap_run_texts.specs.declared.run.Run.{Run}
-use Rattle.sap_translate.specs.Templates.{rules_of}
+use Rattle.sap_templates.specs.Templates.{rules_of}
 use Rattle.sap_replay.specs.Replays.{IsSeen, of_process, of_rules, IsJudgedText, IsFullOf, of_theory, IsCheckedText}
 use Rattle.sap_replay.specs.Verdicts.{Judged, judged_lemmas, all_judged, verdict_line, AreVerdicts, no_line, line_more}
 use Rattle.sap_replay.proofs.Legal.{Laws, file_ready, rules_made}

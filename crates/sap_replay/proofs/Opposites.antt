@@ -13,7 +13,7 @@ use Rattle.sap_terms.specs.Tree.{Tree}
 use Rattle.sap_replay.specs.Replays.{AreOpposite}
 
 -- a run of the process and the one of rules that it is converted to
-pub forward_is_opposite : (f : FileContent) (lines : List PStep) (rule_lines : List RStep) → forward.IsConverted f.signature f.process lines rule_lines → AreOpposite f lines rule_lines
+pub forward_is_opposite : (f : FileContent) (lines : List PStep) (rule_lines : List RStep) → forward.IsConvertedToRules f.signature f.process lines rule_lines → AreOpposite f lines rule_lines
 forward_is_opposite f lines rule_lines c = record {
   theory = file_theory f;
   compiled = refl;
@@ -32,7 +32,7 @@ forward_is_opposite f lines rule_lines c = record {
 }
 
 -- and the other way about
-pub back_is_opposite : (f : FileContent) (rule_lines : List RStep) (lines : List PStep) → back.IsConverted f.signature f.process rule_lines lines → AreOpposite f lines rule_lines
+pub back_is_opposite : (f : FileContent) (rule_lines : List RStep) (lines : List PStep) → back.IsConvertedToProcess f.signature f.process rule_lines lines → AreOpposite f lines rule_lines
 back_is_opposite f rule_lines lines c = record {
   theory = file_theory f;
   compiled = refl;

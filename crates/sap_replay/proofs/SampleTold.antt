@@ -25,7 +25,7 @@ module _ (g : Sig) (start : Proc) (n : ℕ) (some : 1 ≤ n) (run : List PStep) 
 
   -- the numbers of the runs and of the trace
   pub told_of_sample : (times : ℕ) (rules : List RStep) (lines : List PStep) → ((tr : Trace) × forward.IsShownByLines g start run tr × (times ≡ length tr))
-      → forward.IsConverted g start run rules → back.IsConverted g start rules lines → counts_text n (length run) (length rules) (length lines) times ≡ sample_text n
+      → forward.IsConvertedToRules g start run rules → back.IsConvertedToProcess g start rules lines → counts_text n (length run) (length rules) (length lines) times ≡ sample_text n
   told_of_sample times rules lines shown to_rules to_lines =
       let first : length run ≡ 9 * n = ap length is_run ∙ lines_of_sample n in
       let second : length rules ≡ 13 * n + 2 = to_rules.counted ∙ (ap rule_count is_run ∙ rules_of_sample n some) in

@@ -16,7 +16,7 @@ use Rattle.sap_run_texts.specs.declared.run.Run.{Run}
 use Rattle.sap_runs.specs.Limits.{HasFewNodes}
 use Rattle.sap_steps.specs.Runs.{LinesAreRuns}
 use Rattle.sap_translate.specs.Faithful.{ShowsAll}
-use Rattle.sap_translate.specs.Templates.{rules_of}
+use Rattle.sap_templates.specs.Templates.{rules_of}
 use Rattle.sap_replay.specs.Replays.{IsSeen, of_process, of_rules}
 
 -- of messages nothing else is seen

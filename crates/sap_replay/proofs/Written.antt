@@ -19,13 +19,13 @@ use Rattle.sap_run_texts.specs.RunPrinted.{Each, process_run_text}
 use Rattle.sap_run_texts.specs.RunTexts.{IsProcessRunText, IsRuleRunText, IsRunRead, as_process, as_rules, told_process, told_rules, told_neither, process_answer, rule_answer}
 use Rattle.sap_run_texts.specs.Writable.{AreNumbered, CanBeNamed}
 use Rattle.sap_outside.specs.RunPieces.{IsRunAnswer, is_run}
-use Rattle.sap_back.specs.LinesFor.{StandInTurn}
+use Rattle.sap_back.specs.LinesFor.{ProcessLinesStandInTurn}
 use Rattle.sap_back.specs.NamedIn.{IsNamedIn}
 
 -- what is so of texts of runs
 pub record Laws : Type 0 where
   pub named : (s : PStep) → CanBeNamed s → AreNumbered (process_words s) → IsWritableProcess s
-  pub names : (ls : List RStep) (full : Trace) (ss : List PStep) → StandInTurn ls full ss → All (IsNamedIn ls) ss
+  pub names : (ls : List RStep) (full : Trace) (ss : List PStep) → ProcessLinesStandInTurn ls full ss → All (IsNamedIn ls) ss
   pub read : (z : List ℕ) (ss : List RStep) → IsRuleRunText z (Ok ss) → Each IsWritableRule ss
   pub printed : (ss : List PStep) → Each IsWritableProcess ss → length ss ≤ MOST_PROCESS_STEPS → IsProcessRunText (process_run_text ss) (Ok ss)
 
@@ -111,7 +111,7 @@ module _ (ls : List RStep) (writable : All IsWritableRule ls) where
 
 -- the text of lines that stand in turn, those for each line of rules that were read, and whose numbers are of 64 bits, is read as these
 -- lines
-pub opposite_is_read : Laws → (k : Kinds) (z : List ℕ) (ls : List RStep) (full : Trace) (ss : List PStep) → IsRunAnswer k z (Ok (run.Rules ls)) → StandInTurn ls full ss
+pub opposite_is_read : Laws → (k : Kinds) (z : List ℕ) (ls : List RStep) (full : Trace) (ss : List PStep) → IsRunAnswer k z (Ok (run.Rules ls)) → ProcessLinesStandInTurn ls full ss
     → Each (λ s. AreNumbered (process_words s)) ss → length ss ≤ MOST_PROCESS_STEPS → IsProcessRunText (process_run_text ss) (Ok ss)
 opposite_is_read laws k z ls full ss answer turns numbered short =
     let writable = all_of IsWritableRule ls (laws.read z ls (text_of_answer k z ls answer)) in

@@ -51,7 +51,7 @@ use Rattle.sap_read.specs.declared.limits.TheConstants.{MOST_NEW_NAME_BYTES}
 use Rattle.sap_read.specs.Printable.{IsDeclarable, IsPrintableFile}
 use Rattle.sap_theory.specs.PrintableTheory.{IsPrintable, IsPrintableRule}
 use Rattle.sap_gen.specs.Kept.{file_theory}
-use Rattle.sap_translate.specs.Templates.{rules_of}
+use Rattle.sap_templates.specs.Templates.{rules_of}
 use Rattle.sap_forward.specs.Converted as forward
 use Rattle.sap_forward.specs.RuleLinesPass.{RuleLinePasses, RuleLinesPass}
 use Rattle.sap_replay.proofs.WrittenNames.{spellable, passing_content, process_passes, lines_pass, symbol_written, term_written}
@@ -216,7 +216,7 @@ each_written laws (s ∷ ss) named numbered = (laws.named s named.0 numbered.0, 
 -- the text of lines that are opposite to lines of the process that were read, and whose numbers are of 64 bits, is read as these lines,
 -- where the file and its theory can be printed
 pub rules_are_read : RuleLaws → (f : FileContent) → IsPrintableFile MOST_FILE_NAME_BYTES MOST_NEW_NAME_BYTES f → IsPrintable MOST_THEORY_NAME_BYTES (file_theory f) → (z : List ℕ) (lines : List PStep) (rule_lines : List RStep) → IsProcessRunText z (Ok lines)
-    → forward.IsConverted f.signature f.process lines rule_lines → Each (λ s. AreNumbered (rule_words s)) rule_lines → length rule_lines ≤ MOST_RULE_STEPS → IsRuleRunText (rule_run_text rule_lines) (Ok rule_lines)
+    → forward.IsConvertedToRules f.signature f.process lines rule_lines → Each (λ s. AreNumbered (rule_words s)) rule_lines → length rule_lines ≤ MOST_RULE_STEPS → IsRuleRunText (rule_run_text rule_lines) (Ok rule_lines)
 rules_are_read laws f file theory z lines rule_lines read c numbered short =
     let passes = c.names spellable (process_passes f.signature f.process file.process file.contents) (lines_pass lines (laws.read z lines read)) in
     let named = lines_named f.signature file.symbols (rules_of f.process) theory.rules rule_lines c.opposite.state c.opposite.full c.opposite.legal passes in

@@ -38,11 +38,11 @@ use Rattle.sap_rule.specs.WellMade.{IsWellMade}
 pub data IsConvertedText (f : FileContent) : Run → List ℕ → Type 0 where
   -- of the lines that are written, the numbers that their words write are of 64 bits, those in the terms of bindings apart
   to_rules : {lines : List PStep} (rule_lines : List RStep)
-      → forward.IsConverted f.signature f.process lines rule_lines
+      → forward.IsConvertedToRules f.signature f.process lines rule_lines
       → Each (λ line. AreNumbered (rule_words line)) rule_lines
       → IsConvertedText f (run.Process lines) (rule_run_text rule_lines)
   to_process : {rule_lines : List RStep} (lines : List PStep)
-      → back.IsConverted f.signature f.process rule_lines lines
+      → back.IsConvertedToProcess f.signature f.process rule_lines lines
       → Each (λ line. AreNumbered (process_words line)) lines
       → IsConvertedText f (run.Rules rule_lines) (process_run_text lines)
 

@@ -16,7 +16,7 @@ use Rattle.sap_replay.specs.Verdicts.{AreVerdicts, all_judged}
 pub data AreLinesOf (f : FileContent) : Run → List PStep → Type 0 where
   own : (lines : List PStep) → AreLinesOf f (run.Process lines) lines
   converted : {rule_lines : List RStep} (lines : List PStep)
-      → back.IsConverted f.signature f.process rule_lines lines
+      → back.IsConvertedToProcess f.signature f.process rule_lines lines
       → AreLinesOf f (run.Rules rule_lines) lines
 
 -- The lines are legal, and the text tells each of them in turn; behind an empty line it says of each restriction and lemma of the file

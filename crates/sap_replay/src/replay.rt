@@ -1,7 +1,7 @@
 //! Runs of a file: what is written of them, or the line that refuses them.
 
 ghost use Rattle.std.specs.Prelude.{ℕ, List, Ok, IfOk, IsErrOf};
-ghost use Rattle.sap_back.specs.Converted.{IsConverted};
+ghost use Rattle.sap_back.specs.Converted.{IsConvertedToProcess};
 ghost use Rattle.sap_read.specs.Files.{IsRunnable, told_by};
 ghost use Rattle.sap_run_texts.specs.declared.run.Run.{Run as AnyRun};
 ghost use Rattle.sap_run_texts.specs.declared.run.Run.TheVariants as runs;
@@ -103,7 +103,7 @@ fn text_of_process(alloc: Global, file: &File, steps: &RSteps) -> Result<Text, R
 /// The run of the process opposite to a run of rules.
 pub fn process_of(alloc: Global, file: &File, steps: &RSteps) -> Result<PSteps, Refusal>
     requires { IsRunnable (told_by file.now) }
-    ensures given { IfOk result (λ lines. IsConverted (told_by file.now).signature (told_by file.now).process steps.now lines) }
+    ensures given { IfOk result (λ lines. IsConvertedToProcess (told_by file.now).signature (told_by file.now).process steps.now lines) }
     ensures refused { (line : List ℕ) → IsErrOf result (refusals.Told line)
         → IsLineOf (IsIllegal (told_by file.now) (runs.Rules steps.now)) line }
 {

@@ -3,8 +3,8 @@ ghost use Rattle.std.specs.Prelude.{◌≡◌, ◌≤◌, ◌++◌, ◌+◌, ℕ
 ghost use Rattle.sap_process.specs.Proc.{proc};
 ghost use Rattle.sap_read.specs.Files.{IsRead, IsRunnable, told_by};
 ghost use Rattle.sap_read.specs.declared.fault.ReadFault.TheVariants.{Mem as OutOfMemory};
-ghost use Rattle.sap_forward.specs.Converted.{IsConverted as IsForward, IsShownByLines};
-ghost use Rattle.sap_back.specs.Converted.{IsConverted as IsBack};
+ghost use Rattle.sap_forward.specs.Converted.{IsConvertedToRules, IsShownByLines};
+ghost use Rattle.sap_back.specs.Converted.{IsConvertedToProcess};
 ghost use Rattle.sap_terms.specs.Trace.{Trace as Seen};
 ghost use Rattle.sap_replay.specs.Sample.{count_line, counts_text, most_sessions, sample_file_text, sample_lines, sample_text, session, told_sample};
 
@@ -121,7 +121,7 @@ fn shown_times(alloc: Global, file: &File, run: &PSteps) -> Result<u64, Mem>
 fn rules_opposite(alloc: Global, file: &File, run: &PSteps) -> Result<RSteps, Mem>
     requires runnable { IsRunnable (told_by file.now) }
     requires shown { (tr : Seen) × IsShownByLines file.now.signature (proc file.now.process) run.now tr }
-    ensures { IfOk result (IsForward file.now.signature (proc file.now.process) run.now) }
+    ensures { IfOk result (IsConvertedToRules file.now.signature (proc file.now.process) run.now) }
 {
     process_runs_have_one_answer();
     match to_rules(alloc, file, run) {
@@ -135,8 +135,8 @@ fn rules_opposite(alloc: Global, file: &File, run: &PSteps) -> Result<RSteps, Me
 // none breaks a restriction.
 fn lines_opposite(alloc: Global, file: &File, run: &PSteps, rules: &RSteps) -> Result<PSteps, Mem>
     requires runnable { IsRunnable (told_by file.now) }
-    requires opposite { IsForward file.now.signature (proc file.now.process) run.now rules.now }
-    ensures { IfOk result (IsBack file.now.signature (proc file.now.process) rules.now) }
+    requires opposite { IsConvertedToRules file.now.signature (proc file.now.process) run.now rules.now }
+    ensures { IfOk result (IsConvertedToProcess file.now.signature (proc file.now.process) rules.now) }
 {
     rule_runs_have_one_answer();
     match to_process(alloc, file, rules) {

@@ -1,7 +1,7 @@
 //! The commands that tell and draw runs, tried by hand.
 
 ghost use Rattle.std.specs.Prelude.{◌≡◌, ℕ, codes, List, [], ◌∷◌, ◌++◌};
-ghost use Rattle.sap_back.specs.Converted.{IsConverted};
+ghost use Rattle.sap_back.specs.Converted.{IsConvertedToProcess};
 ghost use Rattle.sap_process.specs.Proc.{nil};
 ghost use Rattle.sap_read.specs.Files.{FileContent};
 ghost use Rattle.sap_run_texts.specs.declared.run.Kinds.TheVariants.{Either};
@@ -35,5 +35,5 @@ pub fn telling_by_hand()
         → Writes Tell f (runs.Process []) text }
     ensures not_bare { (f : FileContent) (r : Run) → Writes Tell f r [] → ⊥ }
     ensures converted { (f : FileContent) (rule_lines : List RStep) (lines : List PStep)
-        → AreLinesOf f (runs.Rules rule_lines) lines → IsConverted f.signature f.process rule_lines lines }
+        → AreLinesOf f (runs.Rules rule_lines) lines → IsConvertedToProcess f.signature f.process rule_lines lines }
 {}

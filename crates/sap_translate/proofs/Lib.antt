@@ -1,5 +1,4 @@
-pub mod Cuts
-pub mod Joins
+pub mod Shared
 pub mod Lists
 pub mod Terms
 pub mod Traces

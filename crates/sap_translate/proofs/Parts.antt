@@ -1,4 +1,3 @@
-pub mod Facts
 pub mod Places
 pub mod Owner
 pub mod Control

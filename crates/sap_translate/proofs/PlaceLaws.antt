@@ -20,10 +20,10 @@ use Rattle.sap_rule.specs.declared.rule.Rule.{Rule}
 use Rattle.sap_translate.specs.Members.{Member}
 use Rattle.sap_translate.specs.PlaceRules.{IsOfPlace}
 use Rattle.sap_translate.specs.Scoped.{FactsWithin, Within}
-use Rattle.sap_translate.specs.Templates.{init_rule, own_rules, rules_of}
+use Rattle.sap_templates.specs.Templates.{init_rule, own_rules, rules_of}
 use Rattle.sap_translate.specs.relation.Answers.{term_under, widened}
 use Rattle.sap_translate.specs.relation.Envs.{Env, GoodEnv, bind, chosen, filled, join, names}
-use Rattle.sap_translate.proofs.Parts.Facts.{same_name_self, same_name_true}
+use Rattle.sap_translate.proofs.Shared.Facts.{same_name_self, same_name_true}
 use Rattle.sap_translate.proofs.Parts.Places.{Home, home}
 use Rattle.sap_translate.proofs.Premises.OwnNames.{own_names}
 use Rattle.sap_translate.proofs.Related.Common.{place_rule}

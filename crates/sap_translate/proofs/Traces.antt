@@ -1,5 +1,4 @@
 pub mod Visible
-pub mod Inputs
 pub mod Store
 pub mod LockTraces
 pub mod Demands

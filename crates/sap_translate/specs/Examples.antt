@@ -10,7 +10,7 @@ use Rattle.sap_terms.specs.declared.var.Sort.TheVariants.{Fresh, Msg}
 use Rattle.sap_terms.specs.declared.var.Var.{Var}
 use Rattle.sap_place.specs.StateFacts.{state_fact, waits_fact}
 use Rattle.sap_rule.specs.RuleSteps.{RuleState}
-use Rattle.sap_translate.specs.ChannelFacts.{ack_fact, msg_fact}
+use Rattle.sap_templates.specs.ChannelFacts.{ack_fact, msg_fact}
 use Rattle.sap_process.specs.Action.{new, event, input, insert, delete, send, receive, lock, unlock}
 use Rattle.sap_process.specs.Proc.{Proc, nil, parallel, replicated, act, test, lookup}
 

@@ -1,9 +1,5 @@
-pub mod ChannelFacts
-pub mod Templates
-pub mod RuleLines
 pub mod LineCounts
 pub mod Members
-pub mod Places
 pub mod Scoped
 pub mod OpenLocks
 pub mod Sound
@@ -12,7 +8,6 @@ pub mod Opened
 pub mod PlaceRules
 pub mod Faithful
 pub mod relation
-pub mod code
 pub mod Examples
 pub mod ShownExamples
 pub mod NameExamples

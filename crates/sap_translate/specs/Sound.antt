@@ -11,7 +11,7 @@ use Rattle.sap_process.specs.Proc as whole
 use Rattle.sap_process.specs.Proc.{Proc, act}
 use Rattle.sap_translate.specs.Scoped.{Within, AllWithin, FactsWithin, IsFree, AreUnreserved}
 use Rattle.sap_translate.specs.OpenLocks.{IsUnusedIn, UnlocksAreOpen}
-use Rattle.sap_translate.specs.Places.{ScopedPlace, scoped_place_at, root}
+use Rattle.sap_templates.specs.Places.{ScopedPlace, scoped_place_at, root}
 use Rattle.sap_place.specs.StateFacts.{tag}
 use Rattle.sap_process.specs.Scopes.{lock_var, scope_behind}
 use Rattle.sap_process.specs.Sites.{message_var}

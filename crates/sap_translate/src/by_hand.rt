@@ -3,7 +3,7 @@ ghost use Rattle.std.specs.Prelude.{[], Contains, List, Some, codes, ◌∷◌, 
 ghost use Rattle.sap_translate.specs.Examples.{a_fact, b_fact, both_wait, both_wait_trace, copied_twice, deleted_again, first_fact, first_goes_on, g_fact, locked_test, locked_twice, no_fact, plain_fact, second_fact, term_a, term_b, twin_pattern, twins, twins_told, two_inputs, two_inputs_served_once, two_senders, yes_fact};
 ghost use Rattle.sap_translate.specs.Faithful.{IsShownBy, IsVisibleTrace};
 ghost use Rattle.sap_translate.specs.ShownExamples.{must_start, never_starts, starting_theory};
-ghost use Rattle.sap_translate.specs.Templates.{rules_of};
+ghost use Rattle.sap_templates.specs.Templates.{rules_of};
 ghost use Rattle.sap_process.specs.ProcessSteps.{Fits, IsProcessTrace};
 ghost use Rattle.sap_restrict.specs.Standard.{IsAdmitted};
 ghost use Rattle.sap_rule.specs.RuleSteps.{IsFullTrace, IsUse, RuleRun, RuleStep};

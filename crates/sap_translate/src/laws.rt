@@ -19,10 +19,10 @@ ghost use Rattle.sap_terms.specs.Trace.{Trace};
 ghost use Rattle.sap_terms.specs.declared.var.Var.{Var};
 ghost use Rattle.sap_translate.specs.Faithful.{AreRestrictionsTrue, ShowsAll, ShowsOnly};
 ghost use Rattle.sap_translate.specs.OpenLocks.{UnlocksAreOpen};
-ghost use Rattle.sap_translate.specs.Places.{ScopedPlace, scope_handed_down};
+ghost use Rattle.sap_templates.specs.Places.{ScopedPlace, scope_handed_down};
 ghost use Rattle.sap_translate.specs.Settled.{HasPlainLookups, HasSmallLabels};
 ghost use Rattle.sap_translate.specs.Sound.{IsSound, SoundParts};
-ghost use Rattle.sap_translate.specs.Templates.{init_rule, own_rules, rules_of};
+ghost use Rattle.sap_templates.specs.Templates.{init_rule, own_rules, rules_of};
 ghost use Rattle.sap_translate.specs.relation.Spelled.{IsProcessOver};
 
 use sap_process::instances_of_processes;

@@ -1,17 +1,13 @@
-//! The rules of a process, and why they show what the process shows.
+//! Why the rules of a process show what the process shows.
 #![tactic(auto)]
 
 mod by_hand;
-mod facts;
-mod generation;
 mod laws;
 mod names_by_hand;
 mod place_laws;
 mod relation_laws;
-mod rules;
 
 pub use by_hand::{rule_runs_by_hand, runs_by_hand, shown_by_hand, traces_by_hand};
-pub use generation::generate;
 pub use laws::{
     annotations_are_settled, needed_restrictions_suffice, rules_are_well_made, rules_go_by_places,
     rules_name_their_places, rules_show_the_process, sound_processes_are_shown,

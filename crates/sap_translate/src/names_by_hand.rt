@@ -7,7 +7,7 @@ ghost use Rattle.sap_terms.specs.Piles.{Pile, Takes};
 ghost use Rattle.sap_terms.specs.Signature.{Sig};
 ghost use Rattle.sap_terms.specs.declared.fact.Fact.{Fact};
 ghost use Rattle.sap_translate.specs.NameExamples.{name_owned, name_owned_trace, name_told, other_drawn, other_made};
-ghost use Rattle.sap_translate.specs.Templates.{rules_of};
+ghost use Rattle.sap_templates.specs.Templates.{rules_of};
 
 use sap_process::instances_of_processes;
 use sap_restrict::restrictions_say_sentences;

@@ -26,9 +26,9 @@ ghost use Rattle.sap_terms.specs.declared.fact.Fact.{Fact};
 ghost use Rattle.sap_terms.specs.declared.var.Var.{Var};
 ghost use Rattle.sap_translate.specs.Opened.{left_open, opened};
 ghost use Rattle.sap_translate.specs.PlaceRules.{IsOfPlace};
-ghost use Rattle.sap_translate.specs.Places.{root, scoped_place_at};
+ghost use Rattle.sap_templates.specs.Places.{root, scoped_place_at};
 ghost use Rattle.sap_translate.specs.Scoped.{FactsWithin, IsFree, Within};
-ghost use Rattle.sap_translate.specs.Templates.{init_rule, own_rules, rules_of};
+ghost use Rattle.sap_templates.specs.Templates.{init_rule, own_rules, rules_of};
 ghost use Rattle.sap_translate.specs.relation.Answers.{term_under, widened};
 ghost use Rattle.sap_translate.specs.relation.Envs.{Env, GoodEnv, chosen, filled, join, names};
 

@@ -17,7 +17,7 @@ use Rattle.sap_steps.specs.Lines.{IsLine}
 use Rattle.sap_steps.specs.State.{State}
 use Rattle.sap_steps.specs.declared.fault.RFault.{RFault}
 use Rattle.sap_steps.specs.declared.fault.RFault.TheVariants.{Mem}
-use Rattle.sap_translate.specs.Templates.{rules_of}
+use Rattle.sap_templates.specs.Templates.{rules_of}
 use Rattle.sap_back.specs.Converted.{IsAdmittedRun}
 use Rattle.sap_back.specs.declared.back_at.BackAt.{BackAt}
 use Rattle.sap_back.specs.declared.back_at.BackAt.TheVariants.{Mem as OutOfMemory, Step as StepOf, Broken as BrokenAt}

@@ -16,19 +16,19 @@ use Rattle.sap_lines.specs.declared.fault.PFault.{PFault}
 use Rattle.sap_steps.specs.Marks.{marks}
 use Rattle.sap_steps.specs.Runs.{IsLegalRun}
 use Rattle.sap_calc.specs.Running.{Running, configuration}
-use Rattle.sap_translate.specs.Templates.{rules_of}
+use Rattle.sap_templates.specs.Templates.{rules_of}
 use Rattle.sap_translate.specs.LineCounts.{back_count}
 use Rattle.sap_translate.specs.relation.Agents.{Agent, running, copying}
 use Rattle.sap_translate.specs.relation.Envs.{no_env}
-use Rattle.sap_forward.specs.Answered.{Draws, first_tables}
-use Rattle.sap_forward.specs.Converted.{IsConverted, IsFirstRefusedOfProcess}
+use Rattle.sap_forward.specs.Answered.{Draws, first_rule_tables}
+use Rattle.sap_forward.specs.Converted.{IsConvertedToRules, IsFirstRefusedOfProcess}
 use Rattle.sap_forward.specs.Counted.{lines_for_all, all_copying}
-use Rattle.sap_forward.specs.Least.{is_among, names_drawn, not_drawn, numbers_below}
-use Rattle.sap_forward.specs.LinesFor.{AreLinesForAll}
+use Rattle.sap_rule_lines.specs.Least.{is_among, names_drawn, not_drawn, numbers_below}
+use Rattle.sap_forward.specs.LinesFor.{AreRuleLinesForAll}
 use Rattle.sap_forward.specs.Linked.{Linked}
-use Rattle.sap_forward.specs.Opposite.{init_line}
+use Rattle.sap_rule_lines.specs.RuleLines.{init_line}
 use Rattle.sap_forward.specs.RuleLinesPass.{BringNoName}
-use Rattle.sap_forward.specs.Tables.{Tables}
+use Rattle.sap_forward.specs.Tables.{RuleTables}
 use Rattle.sap_forward.specs.code.Desk.{Keeps}
 use Rattle.sap_forward.specs.code.Taken.{IsTaken}
 use Rattle.sap_forward.specs.declared.desk.Desk.{Desk}
@@ -46,7 +46,7 @@ AreCopying ts agents = (t : ℕ) → is_among ts t ≡ has_started (slice_get ag
 pub record Converted (g : Sig) (W : Tree → Type 0) (q : Proc) (drawn : List ℕ) (lines : List PStep) (c : Config) (es : List Tree) (tr : Trace) (ms : List Mark) : Type 0 where
   pub rest : List RStep
   pub agents : List (Option Agent)
-  pub tables : Tables
+  pub tables : RuleTables
   pub state : RuleState
   pub full : Trace
   pub legal : IsLegalRun g (rules_of q) W (init_line ∷ rest) state full
@@ -55,7 +55,7 @@ pub record Converted (g : Sig) (W : Tree → Type 0) (q : Proc) (drawn : List �
   pub short : length rest ≤ 4 * length lines
   -- which lines stand opposite to which, and the names that locks and tags got
   pub given : List ℕ
-  pub each : AreLinesForAll lines rest given
+  pub each : AreRuleLinesForAll lines rest given
   pub names : given ≡ not_drawn drawn (numbers_below tables.next)
   -- how many there are, and how many stand opposite to them in turn
   pub copying : AreCopying (all_copying [] lines) agents
@@ -78,7 +78,7 @@ pub record IsBegun (g : Sig) (q : Proc) (drawn : List ℕ) (lines : List PStep) 
 -- nothing is done yet, and the rules have started
 abbrev pub Begins : Sig → Proc → Type 0
 Begins g q =
-    (drawn : List ℕ) (r : Running) (d : Desk) → r.sig ≡ g → r.known ≡ [] → configuration r ≡ initial q → Keeps q drawn (Some (running [] no_env q) ∷ []) first_tables d
+    (drawn : List ℕ) (r : Running) (d : Desk) → r.sig ≡ g → r.known ≡ [] → configuration r ≡ initial q → Keeps q drawn (Some (running [] no_env q) ∷ []) first_rule_tables d
     → IsBegun g q drawn [] r d (init_line ∷ [])
 
 -- one more line is taken
@@ -90,7 +90,7 @@ GoesOn g q =
 -- behind the last, all is converted
 abbrev pub EndsConverted : Sig → Proc → Type 0
 EndsConverted g q =
-    (step : PStep) (lines : List PStep) (r : Running) (d : Desk) (written : List RStep) → IsBegun g q (names_drawn (step ∷ lines)) (step ∷ lines) r d written → IsConverted g q (step ∷ lines) written
+    (step : PStep) (lines : List PStep) (r : Running) (d : Desk) (written : List RStep) → IsBegun g q (names_drawn (step ∷ lines)) (step ∷ lines) r d written → IsConvertedToRules g q (step ∷ lines) written
 
 -- all lines are taken, from where a conversion has begun
 abbrev pub AreTaken : List PStep → Running → Running → Desk → Desk → List RStep → List RStep → Type 0

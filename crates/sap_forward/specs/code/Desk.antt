@@ -13,9 +13,9 @@ use Rattle.sap_runs.specs.declared.rule_step.RStep.TheVariants.{Rule as RuleLine
 use Rattle.sap_lines.specs.Places.{proc_at, procs_of, IsRooted}
 use Rattle.sap_lines.specs.declared.place.Place.{Place}
 use Rattle.sap_translate.specs.relation.Agents.{Agent, unborn, running, copying, awaiting, received}
-use Rattle.sap_forward.specs.Least.{is_among}
-use Rattle.sap_forward.specs.Tables.{Tables}
-use Rattle.sap_forward.specs.Written.{IsWritten}
+use Rattle.sap_rule_lines.specs.Least.{is_among}
+use Rattle.sap_forward.specs.Tables.{RuleTables}
+use Rattle.sap_forward.specs.Written.{IsWrittenAsRules}
 use Rattle.sap_forward.specs.declared.desk.Desk.{Desk}
 use Rattle.sap_forward.specs.declared.seats.Seat.{Seat}
 
@@ -42,7 +42,7 @@ AreSeats places (a ∷ agents) (k ∷ numbers) (o ∷ seats) = IsSeat places a k
 AreSeats places agents numbers seats = ⊥
 
 -- the desk keeps what these agents, these tables and these names say, of a run of the start process
-pub record Keeps (start : Proc) (drawn : List ℕ) (agents : List (Option Agent)) (tables : Tables) (d : Desk) : Type 0 where
+pub record Keeps (start : Proc) (drawn : List ℕ) (agents : List (Option Agent)) (tables : RuleTables) (d : Desk) : Type 0 where
   pub root : ℕ
   pub places : IsRooted d.places root start
   pub seats : AreSeats d.places agents tables.threads d.seats
@@ -58,8 +58,8 @@ BindsFound found step ls = Unit {0}
 
 -- where some lines are those that are written for this line of the process, they have been put last, and the desk keeps what they
 -- lead to
-abbrev pub Writes : Desk → Desk → PStep → Option Term → List RStep → List RStep → Type 0
-Writes d e step found before after =
-    (g : Sig) (start : Proc) (drawn : List ℕ) (agents later : List (Option Agent)) (c : Config) (tables behind : Tables) (ls : List RStep)
-    → Keeps start drawn agents tables d → IsWritten g drawn agents c tables step ls later behind → BindsFound found step ls
+abbrev pub WritesRules : Desk → Desk → PStep → Option Term → List RStep → List RStep → Type 0
+WritesRules d e step found before after =
+    (g : Sig) (start : Proc) (drawn : List ℕ) (agents later : List (Option Agent)) (c : Config) (tables behind : RuleTables) (ls : List RStep)
+    → Keeps start drawn agents tables d → IsWrittenAsRules g drawn agents c tables step ls later behind → BindsFound found step ls
     → (after ≡ before ++ ls) × Keeps start drawn later behind e

@@ -11,10 +11,10 @@ use Rattle.sap_runs.specs.declared.rule_step.RStep.TheVariants.{Fresh}
 use Rattle.sap_lines.specs.declared.form.Form.{Form}
 use Rattle.sap_lines.specs.declared.form.Form.TheVariants.{Recv, Lookup, Embedded}
 use Rattle.sap_lines.specs.declared.place.Place.{Place}
-use Rattle.sap_forward.specs.Least.{IsNext}
+use Rattle.sap_rule_lines.specs.Least.{IsNext}
 use Rattle.sap_forward.specs.LinesFor.{uses}
 use Rattle.sap_forward.specs.Written.{numbers_from}
-use Rattle.sap_forward.specs.code.Desk.{Writes}
+use Rattle.sap_forward.specs.code.Desk.{WritesRules}
 use Rattle.sap_forward.specs.declared.desk.Desk.{Desk}
 use Rattle.sap_forward.specs.declared.seats.Seat.{Seat}
 
@@ -46,7 +46,7 @@ Goes d e t digit child come before after ls = (s : Seat) (x : Place) → IsAt d 
 
 -- the lines that are written for a line of the process that isn't `found` have been put last
 abbrev pub WritesAny : Desk → Desk → PStep → List RStep → List RStep → Type 0
-WritesAny d e step before after = (found : Option Term) → Writes d e step found before after
+WritesAny d e step before after = (found : Option Term) → WritesRules d e step found before after
 
 -- the thread has ended, and this line was put last
 abbrev pub Ends : Desk → Desk → ℕ → List RStep → List RStep → Type 0
@@ -70,8 +70,8 @@ StartsCopying d e t before after = (s : Seat) (x : Place) → IsAt d t s x
     × (after ≡ before ++ uses (codes "RepStart_") s.path (s.number ∷ []) [] ∷ uses (codes "RepCopy_") s.path (d.count ∷ []) [] ∷ [])
 
 -- a name is given to a lock or a tag, the least that is left
-abbrev pub Gives : Desk → Desk → ℕ → Type 0
-Gives d e n = IsNext d.names d.next n × (e ≡ record d { next = n + 1 })
+abbrev pub GivesName : Desk → Desk → ℕ → Type 0
+GivesName d e n = IsNext d.names d.next n × (e ≡ record d { next = n + 1 })
 
 -- the form is that of an input on a channel
 abbrev pub has_channel : Form → Bool

@@ -11,7 +11,7 @@ use Rattle.sap_lines.specs.declared.fault.PFault.{PFault}
 use Rattle.sap_lines.specs.declared.fault.PFault.TheVariants.{Mem}
 use Rattle.sap_calc.specs.Replays.{AreDone}
 use Rattle.sap_calc.specs.Running.{Running, IsDone, IsDenied, WouldFind, FindsNothing}
-use Rattle.sap_forward.specs.code.Desk.{Writes}
+use Rattle.sap_forward.specs.code.Desk.{WritesRules}
 use Rattle.sap_forward.specs.declared.desk.Desk.{Desk}
 
 -- what a line `found` would find
@@ -46,4 +46,4 @@ pub record IsTaken (r z : Running) (d e : Desk) (step : PStep) (before after : L
   pub done : IsDone r z step label
   pub found : Option Term
   pub finds : IsFoundBy r step found
-  pub writes : Writes d e step found before after
+  pub writes : WritesRules d e step found before after

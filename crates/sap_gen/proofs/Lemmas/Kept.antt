@@ -17,7 +17,7 @@ use Rattle.sap_restrict.specs.Restrictions.{needed_restrictions}
 use Rattle.sap_rule.specs.RuleSteps.{IsFullTrace}
 use Rattle.sap_translate.specs.Faithful.{AreRestrictionsTrue}
 use Rattle.sap_translate.specs.Sound.{IsSound}
-use Rattle.sap_translate.specs.Templates.{rules_of}
+use Rattle.sap_templates.specs.Templates.{rules_of}
 use Rattle.sap_translate.specs.relation.Spelled.{IsProcessOver}
 use Rattle.sap_gen.proofs.Carried.{carried}
 use Rattle.sap_gen.proofs.Lemmas.LemmaLaws.{LemmaLaws}

@@ -14,7 +14,7 @@ use Rattle.sap_rule.specs.RuleSteps.{IsFullTrace}
 use Rattle.sap_translate.specs.Faithful.{AreRestrictionsTrue, ShowsAll, ShowsOnly}
 use Rattle.sap_translate.specs.OpenLocks.{UnlocksAreOpen}
 use Rattle.sap_translate.specs.Sound.{IsSound, SoundParts}
-use Rattle.sap_translate.specs.Templates.{rules_of}
+use Rattle.sap_templates.specs.Templates.{rules_of}
 use Rattle.sap_translate.specs.relation.Spelled.{IsProcessOver}
 
 -- what sound processes show

@@ -8,9 +8,9 @@ use Rattle.sap_terms.specs.declared.var.Var.{Var}
 use Rattle.sap_process.specs.Places.{place}
 use Rattle.sap_process.specs.Proc.{Proc}
 use Rattle.sap_rule.specs.declared.rule.Rule.{Rule}
-use Rattle.sap_translate.specs.Places.{ScopedPlace, root, scoped_place_at}
+use Rattle.sap_templates.specs.Places.{ScopedPlace, root, scoped_place_at}
 use Rattle.sap_translate.specs.Sound.{SoundPlaces}
-use Rattle.sap_translate.specs.Templates.{state}
+use Rattle.sap_templates.specs.Templates.{state}
 use Rattle.sap_translate.specs.relation.Names.{state_name}
 use Rattle.sap_gen.specs.Moves.{Move, Moves, IsAsTaken}
 use Rattle.sap_gen.specs.Silent.{silent_rule, IsSilentRule}

@@ -20,11 +20,11 @@ use Rattle.sap_process.specs.Proc.{Proc, nil, parallel, replicated, act, test, l
 use Rattle.sap_rule.specs.declared.rule.Rule.{Rule}
 use Rattle.sap_translate.specs.Members.{here, later}
 use Rattle.sap_translate.specs.PlaceRules.{IsOfPlace}
-use Rattle.sap_translate.specs.Places.{child, root, scoped_place_at}
+use Rattle.sap_templates.specs.Places.{child, root, scoped_place_at}
 use Rattle.sap_translate.specs.Scoped.{AreUnreserved}
 use Rattle.sap_translate.specs.Sound.{SoundPlaces}
-use Rattle.sap_translate.specs.ChannelFacts.{ack_fact, fresh_fact, msg_fact}
-use Rattle.sap_translate.specs.Templates.{first_of, second_of, state, own_rules, init_rule, new_rule, out_rule, out_adv_rule, out_msg_rule, out_ack_rule, in_rule, in_adv_rule, in_msg_rule, event_rule, insert_rule, delete_rule, lock_rule, unlock_rule, embedded_rule, nil_rule, parallel_rule, rep_start_rule, rep_copy_rule, then_rule, else_rule, found_rule, missing_rule}
+use Rattle.sap_templates.specs.ChannelFacts.{ack_fact, fresh_fact, msg_fact}
+use Rattle.sap_templates.specs.Templates.{first_of, second_of, state, own_rules, init_rule, new_rule, out_rule, out_adv_rule, out_msg_rule, out_ack_rule, in_rule, in_adv_rule, in_msg_rule, event_rule, insert_rule, delete_rule, lock_rule, unlock_rule, embedded_rule, nil_rule, parallel_rule, rep_start_rule, rep_copy_rule, then_rule, else_rule, found_rule, missing_rule}
 use Rattle.sap_translate.specs.relation.Names.{state_name}
 use Rattle.sap_gen.specs.Moves.{IsPlain, ArePlain, IsAsTaken, AreAsTaken}
 use Rattle.sap_gen.specs.Silent.{IsSilentRule}

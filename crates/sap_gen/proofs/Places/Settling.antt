@@ -13,10 +13,10 @@ use Rattle.sap_process.specs.Proc.{Proc, nil, parallel, replicated, act}
 use Rattle.sap_place.specs.StateFacts.{copies_fact}
 use Rattle.sap_rule.specs.declared.rule.Rule.{Rule}
 use Rattle.sap_translate.specs.Members.{Member, here, later}
-use Rattle.sap_translate.specs.Places.{ScopedPlace, root, scoped_place_at}
+use Rattle.sap_templates.specs.Places.{ScopedPlace, root, scoped_place_at}
 use Rattle.sap_translate.specs.Scoped.{AllWithin, FactsWithin}
 use Rattle.sap_translate.specs.Sound.{SoundPlaces}
-use Rattle.sap_translate.specs.Templates.{first_of, second_of, state, nil_rule, out_rule, parallel_rule, rep_start_rule}
+use Rattle.sap_templates.specs.Templates.{first_of, second_of, state, nil_rule, out_rule, parallel_rule, rep_start_rule}
 use Rattle.sap_translate.specs.relation.Names.{state_name}
 use Rattle.sap_gen.specs.Settled.{IsSettled, nothing_left, stays, goes_on}
 use Rattle.sap_gen.specs.Silent.{silent_rule, IsSilentRule}

@@ -12,9 +12,9 @@ use Rattle.sap_process.specs.Places.{place}
 use Rattle.sap_process.specs.Proc.{Proc, nil, parallel, replicated, act}
 use Rattle.sap_rule.specs.declared.rule.Rule.{Rule}
 use Rattle.sap_translate.specs.PlaceRules.{IsOfPlace}
-use Rattle.sap_translate.specs.Places.{ScopedPlace, root, scoped_place_at}
+use Rattle.sap_templates.specs.Places.{ScopedPlace, root, scoped_place_at}
 use Rattle.sap_translate.specs.Sound.{SoundPlaces}
-use Rattle.sap_translate.specs.Templates.{state, own_rules, init_rule, rules_of, nil_rule, out_rule, parallel_rule, rep_start_rule, rep_copy_rule}
+use Rattle.sap_templates.specs.Templates.{state, own_rules, init_rule, rules_of, nil_rule, out_rule, parallel_rule, rep_start_rule, rep_copy_rule}
 use Rattle.sap_translate.specs.relation.Names.{state_name}
 use Rattle.sap_gen.specs.Moves.{IsPlain, ArePlain, IsAsTaken, AreAsTaken, IsShortened, IsShortening}
 use Rattle.sap_gen.specs.Settled.{IsSettled, nothing_left, stays, goes_on}

@@ -6,7 +6,7 @@ use Rattle.std.specs.Str.{bytes_eq}
 use Rattle.sap_process.specs.Places.{Descent, Place, place_below, place_from}
 use Rattle.sap_process.specs.Proc.{Proc}
 use Rattle.sap_place.specs.StateFacts.{digits}
-use Rattle.sap_translate.specs.Places.{ScopedPlace, child, root, scope_handed_down, scoped_place_at}
+use Rattle.sap_templates.specs.Places.{ScopedPlace, child, root, scope_handed_down, scoped_place_at}
 use Rattle.sap_translate.specs.relation.Names.{state_name}
 use Rattle.sap_gen.specs.code.SettledPlaces.{path_of, undo}
 

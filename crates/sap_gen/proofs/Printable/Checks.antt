@@ -26,7 +26,7 @@ use Rattle.sap_theory.specs.TheoryCauses.{IsLinear, IsPlainRule, first_repeated,
 use Rattle.sap_restrict.specs.Laws.{StandardClosedLaw}
 use Rattle.sap_gen.specs.Kept.{IsClosedTheory, file_theory, inlined_file_theory}
 use Rattle.sap_read.specs.OwnNames.{HaveOwnNames, IsNamedApart, statement_names}
-use Rattle.sap_translate.specs.Templates.{rules_of}
+use Rattle.sap_templates.specs.Templates.{rules_of}
 use Rattle.sap_gen.proofs.Lemmas.Closed.{inlined_theory_closed, theory_closed}
 use Rattle.sap_gen.proofs.Printable.Faultless.{closed_faultless}
 use Rattle.sap_gen.proofs.Printable.OwnNames.{Apart, inlined_theory_names, other, theory_names}

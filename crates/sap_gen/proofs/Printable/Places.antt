@@ -8,7 +8,7 @@ use Rattle.sap_process.specs.Sites.{message_var}
 use Rattle.sap_process.specs.Scopes.{scope_behind}
 use Rattle.sap_rule.specs.declared.rule.Rule.{Rule}
 use Rattle.sap_read.specs.Printable.{IsPrintableProcess}
-use Rattle.sap_translate.specs.Templates.{first_of, second_of, own_rules, place_rules, rules_of}
+use Rattle.sap_templates.specs.Templates.{first_of, second_of, own_rules, place_rules, rules_of}
 use Rattle.sap_translate.specs.Settled.{HasSmallLabels, HasPlainLookups}
 use Rattle.sap_gen.proofs.Lists.{each_both}
 use Rattle.sap_gen.proofs.Printable.Names.{HasDigits, digits_more}

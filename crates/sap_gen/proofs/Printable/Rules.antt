@@ -23,8 +23,8 @@ use Rattle.sap_grammar.specs.Words.{is_grammar_word}
 use Rattle.sap_grammar.specs.ByteWords.{IsName}
 use Rattle.sap_grammar.specs.Printable.{IsPrintableTerm, IsPrintableFact}
 use Rattle.sap_read.specs.Printable.{IsPrintableAct, IsPrintableAction}
-use Rattle.sap_translate.specs.ChannelFacts.{fresh_fact, msg_fact, ack_fact}
-use Rattle.sap_translate.specs.Templates.{action_rules, embedded_acts, first_of, init_rule, lookup_rules, nil_rules, parallel_rules, replicated_rules, rule, second_of, state, test_rules}
+use Rattle.sap_templates.specs.ChannelFacts.{fresh_fact, msg_fact, ack_fact}
+use Rattle.sap_templates.specs.Templates.{action_rules, embedded_acts, first_of, init_rule, lookup_rules, nil_rules, parallel_rules, replicated_rules, rule, second_of, state, test_rules}
 use Rattle.sap_translate.specs.Settled.{HasSmallLabel}
 use Rattle.sap_gen.proofs.Lists.{each_both}
 use Rattle.sap_gen.proofs.Printable.Names.{begins_letter, letters_name, placed_name}

@@ -24,7 +24,7 @@ use Rattle.sap_grammar.specs.ByteWords.{IsName}
 use Rattle.sap_grammar.specs.Printable.{IsTidy, IsTidyVariable, AreTidy, HasNames, HaveNames, IsPrintableTerm, IsPrintableFact}
 use Rattle.sap_read.specs.Printable.{IsPrintableAct, IsPrintableAction}
 use Rattle.sap_translate.specs.Settled.{HasSmallLabel}
-use Rattle.sap_translate.specs.Templates.{state}
+use Rattle.sap_templates.specs.Templates.{state}
 use Rattle.sap_gen.proofs.Lists.{each_both}
 use Rattle.sap_gen.proofs.Printable.Names.{HasDigits, begins_letter, letters_name, placed_name, lock_name}
 

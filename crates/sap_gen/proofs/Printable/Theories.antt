@@ -23,7 +23,7 @@ use Rattle.sap_grammar.specs.Printable.{IsPrintableFact}
 use Rattle.sap_theory.specs.PrintableTheory.{IsPrintable, IsPrintableLemma, IsPrintableRestriction, IsPrintableRule, IsPrintableSymbol}
 use Rattle.sap_theory.specs.SignatureText.{is_brought}
 use Rattle.sap_gen.specs.Kept.{all_restrictions, file_theory, inlined_file_theory}
-use Rattle.sap_translate.specs.Templates.{rules_of}
+use Rattle.sap_templates.specs.Templates.{rules_of}
 use Rattle.sap_gen.specs.Theories.{inlined_lemma}
 use Rattle.sap_translate.specs.Settled.{HasPlainLookups, HasSmallLabels}
 use Rattle.sap_gen.proofs.Lists.{each_both}

@@ -9,8 +9,8 @@ use Rattle.sap_place.specs.StateFacts.{copies_fact}
 use Rattle.sap_process.specs.Action.{out}
 use Rattle.sap_process.specs.Proc.{Proc, nil, parallel, replicated, act}
 use Rattle.sap_rule.specs.declared.rule.Rule.{Rule}
-use Rattle.sap_translate.specs.Places.{ScopedPlace, root, scoped_place_at}
-use Rattle.sap_translate.specs.Templates.{first_of, rules_of, second_of, state}
+use Rattle.sap_templates.specs.Places.{ScopedPlace, root, scoped_place_at}
+use Rattle.sap_templates.specs.Templates.{first_of, rules_of, second_of, state}
 use Rattle.sap_translate.specs.relation.Names.{state_name}
 use Rattle.sap_gen.specs.Silent.{silent_rule}
 

@@ -18,7 +18,7 @@ use Rattle.sap_translate.specs.Faithful.{IsVisibleTrace}
 use Rattle.sap_translate.specs.Members.{Member}
 use Rattle.sap_translate.specs.Scoped.{IsFree}
 use Rattle.sap_translate.specs.Sound.{IsSound}
-use Rattle.sap_translate.specs.Templates.{rules_of}
+use Rattle.sap_templates.specs.Templates.{rules_of}
 use Rattle.sap_translate.specs.relation.Spelled.{IsProcessOver}
 use Rattle.sap_translate.proofs.ByHand.Parts.{sound_by_parts, rules_show, own_form, gives_name, all_named, names_messages}
 use Rattle.sap_translate.proofs.Premises.LowerLaws.{Laws}

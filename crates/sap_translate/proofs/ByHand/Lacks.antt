@@ -19,12 +19,12 @@ use Rattle.sap_process.specs.ProcessSteps.{ProcessStep, ProcessRun, IsProcessTra
 use Rattle.sap_translate.specs.Examples.{copied_twice, locked_test, plain_fact, no_fact, twins}
 use Rattle.sap_translate.specs.Faithful.{IsVisibleTrace}
 use Rattle.sap_translate.specs.Members.{Member}
-use Rattle.sap_translate.specs.Templates.{rules_of}
+use Rattle.sap_templates.specs.Templates.{rules_of}
 use Rattle.sap_translate.proofs.ByHand.Channels.{test_sound, test_over}
 use Rattle.sap_translate.proofs.ByHand.Moves.{only_item, no_item}
 use Rattle.sap_translate.proofs.ByHand.Pairs.{pattern_sound}
 use Rattle.sap_translate.proofs.ByHand.Parts.{sound_by_parts, rules_show_only}
-use Rattle.sap_translate.proofs.Lists.Lookups.{Every, every-set, every_push, member_cases, in_left, in_right, only_member}
+use Rattle.sap_translate.proofs.Shared.Lookups.{Every, every-set, every_push, member_cases, in_left, in_right, only_member}
 use Rattle.sap_translate.proofs.Premises.LowerLaws.{Laws}
 use Rattle.sap_translate.proofs.Terms.Derive.{member}
 

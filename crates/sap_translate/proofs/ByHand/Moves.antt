@@ -7,7 +7,7 @@ use Rattle.sap_terms.specs.Trace.{Trace, shown}
 use Rattle.sap_terms.specs.declared.fact.Fact.{Fact}
 use Rattle.sap_process.specs.Configuration.{Config}
 use Rattle.sap_process.specs.ProcessSteps.{ProcessStep, ProcessRun}
-use Rattle.sap_translate.proofs.Lists.Lookups.{Every}
+use Rattle.sap_translate.proofs.Shared.Lookups.{Every}
 
 -- where nothing is shown, the first is so, and where this label is shown, the second
 abbrev pub Outcome : (Config → Type 0) → List Fact → (Config → Type 0) → List Fact → Config → Type 0

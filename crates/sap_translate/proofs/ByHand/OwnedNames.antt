@@ -14,10 +14,10 @@ use Rattle.sap_rule.specs.RuleSteps.{RuleRun, RuleStep, IsUse}
 use Rattle.sap_rule.specs.declared.rule.Rule.{Rule}
 use Rattle.sap_translate.specs.Members.{Member}
 use Rattle.sap_translate.specs.NameExamples.{name_told, name_owned, name_owned_trace, other_drawn, other_made}
-use Rattle.sap_translate.specs.Templates.{rules_of}
+use Rattle.sap_templates.specs.Templates.{rules_of}
 use Rattle.sap_translate.proofs.ByHand.RuleRuns.{rule_at, used, unmade, tagged, tags_messages}
 use Rattle.sap_translate.proofs.ByHand.Tags.{EachLeft, every_left}
-use Rattle.sap_translate.proofs.Lists.Takings.{taken_each}
+use Rattle.sap_translate.proofs.Shared.Takings.{taken_each}
 use Rattle.sap_translate.proofs.Premises.LowerLaws.{Laws}
 use Rattle.sap_translate.proofs.Premises.WellMade.{each_at}
 use Rattle.sap_translate.proofs.Terms.Derive.{member}

@@ -21,10 +21,10 @@ use Rattle.sap_process.specs.Proc.{Proc, act}
 use Rattle.sap_process.specs.Sites.{message_var}
 use Rattle.sap_translate.specs.Faithful.{ShowsAll, ShowsOnly}
 use Rattle.sap_translate.specs.OpenLocks.{UnlocksAreOpen}
-use Rattle.sap_translate.specs.Places.{ScopedPlace, scoped_place_at}
+use Rattle.sap_templates.specs.Places.{ScopedPlace, scoped_place_at}
 use Rattle.sap_process.specs.Places.{place}
 use Rattle.sap_translate.specs.Sound.{SoundAt, SoundParts, IsSound}
-use Rattle.sap_translate.specs.Templates.{first_of, init_rule, rules_of, second_of}
+use Rattle.sap_templates.specs.Templates.{first_of, init_rule, rules_of, second_of}
 use Rattle.sap_translate.specs.relation.Spelled.{IsProcessOver}
 use Rattle.sap_translate.proofs.Premises.LowerLaws.{Laws}
 use Rattle.sap_translate.proofs.Premises.Messages.{tidy_run}

@@ -23,7 +23,7 @@ use Rattle.sap_rule.specs.declared.rule.Rule.{Rule}
 use Rattle.sap_translate.specs.Examples.{term_a, two_inputs, two_inputs_served_once, two_senders, both_wait, both_wait_trace, first_goes_on}
 use Rattle.sap_formula.specs.Truth.{EachIn}
 use Rattle.sap_translate.specs.Members.{Member}
-use Rattle.sap_translate.specs.Templates.{init_rule, rules_of}
+use Rattle.sap_templates.specs.Templates.{init_rule, rules_of}
 use Rattle.sap_translate.proofs.ByHand.Parts.{names_messages, all_named}
 use Rattle.sap_translate.proofs.Premises.LowerLaws.{Laws}
 use Rattle.sap_translate.proofs.Premises.WellMade.{each_at}

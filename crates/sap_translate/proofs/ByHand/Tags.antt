@@ -17,10 +17,10 @@ use Rattle.sap_rule.specs.RuleSteps.{IsUse}
 use Rattle.sap_rule.specs.declared.rule.Rule.{Rule}
 use Rattle.sap_translate.specs.Examples.{c, two_senders, both_wait}
 use Rattle.sap_translate.specs.Members.{Member}
-use Rattle.sap_translate.specs.Templates.{rules_of}
+use Rattle.sap_templates.specs.Templates.{rules_of}
 use Rattle.sap_translate.proofs.ByHand.RuleRuns.{rule_at}
-use Rattle.sap_translate.proofs.Lists.Lookups.{Every}
-use Rattle.sap_translate.proofs.Lists.Takings.{taken_each}
+use Rattle.sap_translate.proofs.Shared.Lookups.{Every}
+use Rattle.sap_translate.proofs.Shared.Takings.{taken_each}
 use Rattle.sap_translate.proofs.Premises.LowerLaws.{Laws, nf-equal, nf-fresh, chain, back}
 use Rattle.sap_translate.proofs.Premises.WellMade.{each_at}
 use Rattle.sap_translate.proofs.Terms.Derive.{member}

@@ -1,6 +1,6 @@
 -- Traces of small processes, step by step, and the same of their rules.
 use Rattle.std.proofs.Common.{[], ◌∷◌, Some, refl}
-use Rattle.std.specs.Prelude.{codes}
+use Rattle.std.specs.Prelude.{codes, None}
 use Rattle.sap_terms.specs.AdversaryFacts.{k_fact}
 use Rattle.sap_terms.specs.Equal.{IsTheoryEqual}
 use Rattle.sap_terms.specs.Signature.{Sig, HoldsBuiltins}
@@ -8,13 +8,12 @@ use Rattle.sap_process.specs.Action.{event, delete, input}
 use Rattle.sap_process.specs.Configuration.{Config, initial, becomes, spawns, stores}
 use Rattle.sap_process.specs.Proc.{Proc, nil, replicated, act, lookup}
 use Rattle.sap_process.specs.ProcessSteps.{ProcessStep, ProcessRun, IsProcessTrace}
-use Rattle.std.specs.Prelude.{None}
 use Rattle.sap_terms.specs.Tree.{variable}
 use Rattle.sap_translate.specs.Examples.{term_a, term_k, term_v, x, y, plain_fact, no_fact, yes_fact, a_fact, b_fact, copied_twice, deleted_again, two_inputs}
 use Rattle.sap_translate.specs.Faithful.{IsVisibleTrace}
 use Rattle.sap_translate.specs.Members.{Member}
 use Rattle.sap_translate.specs.Sound.{IsSound}
-use Rattle.sap_translate.specs.Templates.{rules_of}
+use Rattle.sap_templates.specs.Templates.{rules_of}
 use Rattle.sap_translate.specs.relation.Spelled.{IsProcessOver}
 use Rattle.sap_translate.proofs.ByHand.Parts.{sound_by_parts, rules_show, own_form, gives_name, all_named, names_messages}
 use Rattle.sap_translate.proofs.Premises.LowerLaws.{Laws}

@@ -1,9 +1,9 @@
 -- Facts of embedded rules: what one pile can give, a pile with the same facts can give too.
 use Rattle.sap_translate.specs.Members.{Member}
 use Rattle.sap_translate.proofs.Parts.Control.{LiveFact}
-use Rattle.sap_translate.proofs.Parts.Facts.{same_fact_self, same_fact_true}
-use Rattle.sap_translate.proofs.Lists.Takings.{takes_total}
-use Rattle.sap_translate.proofs.Lists.Totals.{total-set, total-append, total_found, Found}
+use Rattle.sap_translate.proofs.Shared.Facts.{same_fact_self, same_fact_true}
+use Rattle.sap_translate.proofs.Shared.Takings.{takes_total}
+use Rattle.sap_translate.proofs.Shared.Totals.{total-set, total-append, total_found, Found}
 use Rattle.sap_translate.specs.relation.Names.{same_fact}
 use Rattle.sap_translate.specs.relation.Counts.{count_user, SamePile}
 use Rattle.sap_translate.specs.Scoped.{AreUnreserved}

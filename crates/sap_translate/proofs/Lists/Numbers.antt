@@ -1,6 +1,6 @@
 -- The numbers of facts, where some are taken and some come.
 use Rattle.std.proofs.Common.{◌≡◌, ℕ, zero, suc, ◌+◌, List, [], ◌∷◌, ◌++◌, Some, refl, ap, arith, slice_get, slice_set, length}
-use Rattle.sap_translate.proofs.Traces.Visible.{get_within}
+use Rattle.sap_translate.proofs.Shared.Lookups.{get_within}
 
 pub length-slice_set : {A : Type 0} (xs : List A) (t : ℕ) (y : A) → length (slice_set xs t y) ≡ length xs
 length-slice_set [] t y = refl

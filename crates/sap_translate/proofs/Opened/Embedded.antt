@@ -14,7 +14,7 @@ use Rattle.sap_translate.specs.Scoped.{FactsWithin, IsFree}
 use Rattle.sap_translate.specs.relation.Answers.{widened}
 use Rattle.sap_translate.specs.relation.Envs.{Env, bind, chosen, filled, join, names}
 use Rattle.sap_translate.proofs.Lists.FactLists.{map_joined, within_right}
-use Rattle.sap_translate.proofs.Lists.Lookups.{in_left, in_right, member_cases, member_right}
+use Rattle.sap_translate.proofs.Shared.Lookups.{in_left, in_right, member_cases, member_right}
 use Rattle.sap_translate.proofs.Opened.NewVars.{filter_new, new_in, or_more}
 use Rattle.sap_translate.proofs.Opened.Rules.{in_facts}
 use Rattle.sap_translate.proofs.Terms.Choices.{filled_is, join_new}

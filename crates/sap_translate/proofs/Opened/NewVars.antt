@@ -6,8 +6,8 @@ use Rattle.sap_terms.specs.declared.var.Var.{Var}
 use Rattle.sap_process.specs.Sites.{var_names}
 use Rattle.sap_translate.specs.Members.{Member}
 use Rattle.sap_translate.proofs.Lists.FactLists.{map_joined}
-use Rattle.sap_translate.proofs.Lists.Lookups.{member_left, member_right}
-use Rattle.sap_translate.proofs.Parts.Facts.{same_name_self, same_name_true}
+use Rattle.sap_translate.proofs.Shared.Lookups.{member_left, member_right}
+use Rattle.sap_translate.proofs.Shared.Facts.{same_name_self, same_name_true}
 use Rattle.sap_translate.proofs.Terms.Substitution.{known_new, member_known, names-append, new_of}
 
 abbrev Names : Type 0

@@ -10,7 +10,7 @@ use Rattle.sap_rewrite.specs.Around.{outer_vars, all_outer_vars}
 use Rattle.sap_process.specs.Heads.{facts_terms}
 use Rattle.sap_rule.specs.Variables.{facts_outer_vars}
 use Rattle.sap_translate.specs.Members.{Member}
-use Rattle.sap_translate.proofs.Lists.Lookups.{member_left, member_right}
+use Rattle.sap_translate.proofs.Shared.Lookups.{member_left, member_right}
 
 not_true : (b : Bool) → (b ≡ true → ⊥) → b ≡ false
 not_true true h = absurd (h refl)

@@ -14,9 +14,9 @@ use Rattle.sap_process.specs.Scopes.{scope_behind}
 use Rattle.sap_process.specs.Sites.{Site, above_of, bound_by, message_var, sites_from}
 use Rattle.sap_process.specs.declared.flaw.Flaw.TheVariants.{PatternDestructor}
 use Rattle.sap_translate.specs.Members.{Member}
-use Rattle.sap_translate.specs.Places.{ScopedPlace, root, scoped_place_at}
-use Rattle.sap_translate.specs.Templates.{first_of, second_of}
-use Rattle.sap_translate.proofs.Lists.Lookups.{member_left, member_right}
+use Rattle.sap_templates.specs.Places.{ScopedPlace, root, scoped_place_at}
+use Rattle.sap_templates.specs.Templates.{first_of, second_of}
+use Rattle.sap_translate.proofs.Shared.Lookups.{member_left, member_right}
 use Rattle.sap_translate.proofs.Terms.Clean.{member_place}
 
 module _ (P : Proc → Type 0) where

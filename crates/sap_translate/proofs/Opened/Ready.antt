@@ -15,8 +15,8 @@ use Rattle.sap_process.specs.Proc.{Proc, act, node_count}
 use Rattle.sap_process.specs.Ready.{IsReady}
 use Rattle.sap_rule.specs.Variables.{open_variables}
 use Rattle.sap_translate.specs.Opened.{left_open, opened}
-use Rattle.sap_translate.specs.Places.{root, scoped_place_at}
-use Rattle.sap_translate.specs.Templates.{own_rules}
+use Rattle.sap_templates.specs.Places.{root, scoped_place_at}
+use Rattle.sap_templates.specs.Templates.{own_rules}
 use Rattle.sap_translate.specs.relation.Answers.{widened}
 use Rattle.sap_translate.specs.relation.Envs.{Env, filled, names}
 use Rattle.sap_translate.proofs.Opened.Embedded.{open_agrees}

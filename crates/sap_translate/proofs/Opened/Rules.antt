@@ -21,13 +21,13 @@ use Rattle.sap_process.specs.Sites.{fresh_var, message_var, var_names}
 use Rattle.sap_restrict.specs.ReservedFacts.{delete_fact, eq_fact, event_fact, input_fact, insert_fact, is_in_fact, is_not_set_fact, lock_fact, not_eq_fact, unlock_fact}
 use Rattle.sap_rule.specs.Variables.{facts_outer_vars, open_variables, rule_vars}
 use Rattle.sap_rule.specs.declared.rule.Rule.{Rule}
-use Rattle.sap_translate.specs.ChannelFacts.{ack_fact, fresh_fact, msg_fact}
+use Rattle.sap_templates.specs.ChannelFacts.{ack_fact, fresh_fact, msg_fact}
 use Rattle.sap_translate.specs.Members.{Member}
 use Rattle.sap_translate.specs.Opened.{left_open, opened, opened_by}
 use Rattle.sap_translate.specs.Scoped.{AllWithin, FactsWithin, IsFree, Within}
 use Rattle.sap_translate.specs.Sound.{IsSoundAction, SoundAt}
-use Rattle.sap_translate.specs.Templates.{action_rules, embedded_acts, embedded_rule, first_of, own_rules, rule, second_of, state}
-use Rattle.sap_translate.proofs.Lists.Lookups.{in_left, in_right, member_cases, member_last, member_left, member_right, only_member}
+use Rattle.sap_templates.specs.Templates.{action_rules, embedded_acts, embedded_rule, first_of, own_rules, rule, second_of, state}
+use Rattle.sap_translate.proofs.Shared.Lookups.{in_left, in_right, member_cases, member_last, member_left, member_right, only_member}
 use Rattle.sap_translate.proofs.Opened.NewVars.{new_in, new_none, new_one, rule_new}
 use Rattle.sap_translate.proofs.Opened.Outer.{ArePlain, facts_outer, outer_all, scope_outer, tagged_outer}
 use Rattle.sap_translate.proofs.Premises.WellMade.{Inside, among_more, in_list, same, tagged_within, vars_within}

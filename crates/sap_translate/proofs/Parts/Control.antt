@@ -1,22 +1,19 @@
 -- Each live state fact has its thread, and each thread its fact.
 use Rattle.sap_translate.specs.Members.{Member}
-use Rattle.sap_translate.proofs.Parts.Facts.{names_apart, same_fact_self, same_fact_true}
-use Rattle.sap_translate.proofs.Lists.Lookups.{only_member}
-use Rattle.sap_translate.proofs.Parts.Owner.{Owner, owner, first, second, of_two}
-use Rattle.sap_translate.proofs.Lists.Totals.{total-set, total_found, Found}
-use Rattle.sap_translate.specs.relation.Envs.{Env, values}
-use Rattle.sap_translate.specs.ChannelFacts.{msg_fact, ack_fact}
-use Rattle.sap_translate.specs.relation.Names.{same_fact, state_name, semi_name}
+use Rattle.sap_translate.proofs.Parts.Owner.{owners}
+use Rattle.sap_translate.proofs.Shared.Facts.{same_fact_self, same_fact_true}
+use Rattle.sap_translate.proofs.Shared.Standing as by_owners
+use Rattle.sap_translate.proofs.Shared.Standing.{CopyStanding, Standing}
+use Rattle.sap_translate.proofs.Shared.Totals.{total-set, total_found, Found}
+use Rattle.sap_translate.specs.relation.Names.{same_fact}
 use Rattle.sap_translate.specs.relation.Totals.{total}
-use Rattle.sap_translate.specs.relation.Agents.{Agent, unborn, running, copying, awaiting, received, stands_as}
+use Rattle.sap_translate.specs.relation.Agents.{Agent, stands_as}
 use Rattle.sap_translate.specs.relation.Counts.{SameFacts, count_one, count_live, count_owed, count_fact, is_control}
-use Rattle.sap_place.specs.StateFacts.{state_fact, copies_fact, waits_fact, digits}
-use Rattle.sap_process.specs.Proc.{Proc}
+use Rattle.sap_place.specs.StateFacts.{state_fact, copies_fact}
 use Rattle.sap_rule.specs.RuleSteps.{RuleState}
-use Rattle.sap_terms.specs.Tree.{Tree, fresh}
+use Rattle.sap_terms.specs.Tree.{Tree}
 use Rattle.sap_terms.specs.declared.fact.Fact.{Fact}
-use Rattle.std.proofs.Common.{◌≡◌, ℕ, ◌+◌, ◌<◌, List, [], ◌∷◌, ◌++◌, Option, Some, None, refl, sym, ap, ◌∙◌, arith, Bool, true, false, cond, slice_get, subst}
-use Rattle.std.specs.Str.{bytes_eq}
+use Rattle.std.proofs.Common.{◌≡◌, ℕ, ◌<◌, List, [], ◌∷◌, Option, Some, None, refl, sym, ap, ◌∙◌, arith, Bool, true, false, cond, slice_get, subst}
 
 cond_pos : (b : Bool) (n : ℕ) → 0 < cond b n 0 → (b ≡ true) × (0 < n)
 cond_pos true n h = (refl, h)
@@ -77,106 +74,11 @@ pub fact_of : (agents : List (Option Agent)) (s : RuleState) (t : ℕ) (a : Agen
 fact_of agents s t a f same e stands control = fact_in agents s t a f same e (subst (λ fs. Member f fs) (sym stands) Member.here) control
 
 -- the thread of a live state fact
-pub record Standing (agents : List (Option Agent)) (path : List ℕ) (args : List Tree) : Type 0 where
-  pub thread : ℕ
-  pub env : Env
-  pub body : Proc
-  pub is : slice_get agents thread ≡ Some (Some (running path env body))
-  pub bound : args ≡ values env
+pub agent_of : (agents : List (Option Agent)) (path : List ℕ) (args : List Tree) (s : RuleState) (k : ℕ) (same : SameFacts agents s) (e : slice_get s.facts k ≡ Some (Some (state_fact path args)))
+    → Standing agents (owners agents s same k (state_fact path args) refl e).thread path args
+agent_of agents path args s k same e = by_owners.agent_of agents path args s k (owners agents s same) e
 
-pub record CopyStanding (agents : List (Option Agent)) (path : List ℕ) (args : List Tree) : Type 0 where
-  pub thread : ℕ
-  pub env : Env
-  pub body : Proc
-  pub is : slice_get agents thread ≡ Some (Some (copying path env body))
-  pub bound : args ≡ values env
-
-digits_same : (p q : List ℕ) → digits p ≡ digits q → p ≡ q
-digits_same [] [] e = refl
-digits_same [] (y ∷ q) e = absurd (cc)
-digits_same (x ∷ p) [] e = absurd (cc)
-digits_same (x ∷ p) (y ∷ q) e =
-    let head : 48 + x ≡ 48 + y = cc in
-    let tail : digits p ≡ digits q = cc in
-    let same : x ≡ y = omega arith in
-    let rest : p ≡ q = digits_same p q tail in
-    cc
-
-pub state_name_same : (p q : List ℕ) → state_name p ≡ state_name q → p ≡ q
-state_name_same p q e = digits_same p q (cc)
-
-semi_name_same : (p q : List ℕ) → semi_name p ≡ semi_name q → p ≡ q
-semi_name_same p q e = digits_same p q (cc)
-
-module _ (agents : List (Option Agent)) (path : List ℕ) (args : List Tree) where
-  standing : Owner agents (state_fact path args) → Standing agents path args
-  standing o = go o.agent o.is o.stands
-    where
-      name : (g : Fact) → bytes_eq (state_fact path args).name g.name ≡ false → state_fact path args ≡ g → ⊥
-      name g z e = names_apart (state_fact path args).name g.name z (ap (λ (z : Fact). z.name) e)
-
-      go : (a : Agent) → slice_get agents o.thread ≡ Some (Some a) → Member (state_fact path args) (stands_as a) → Standing agents path args
-      go (unborn body) e m = elim m [ ]
-      go (running q env body) e m =
-          let same = only_member m in
-          let paths : path ≡ q = state_name_same path q (ap (λ (z : Fact). z.name) same) in
-          record { thread = o.thread; env = env; body = body; is = e ∙ ap (λ i. Some (Some (running i env body))) (sym paths); bound = ap (λ (z : Fact). z.args) same }
-      go (copying q env body) e m = absurd (name (copies_fact q (values env)) refl (only_member m))
-      go (awaiting q env x y i j body g) e m = elim (of_two m) [ first h ↦ absurd (name (msg_fact (fresh g) i j) refl h) | second h ↦ absurd (name (waits_fact q (values env ++ fresh g ∷ [])) refl h) ]
-      go (received q env x y body g) e m = elim (of_two m) [ first h ↦ absurd (name (ack_fact (fresh g)) refl h) | second h ↦ absurd (name (waits_fact q (values env ++ fresh g ∷ [])) refl h) ]
-
-  pub agent_of : (s : RuleState) (k : ℕ) → SameFacts agents s → slice_get s.facts k ≡ Some (Some (state_fact path args)) → Standing agents path args
-  agent_of s k same e = standing (owner agents s k (state_fact path args) same refl e)
-
-  copy_standing : Owner agents (copies_fact path args) → CopyStanding agents path args
-  copy_standing o = go o.agent o.is o.stands
-    where
-      name : (g : Fact) → bytes_eq (copies_fact path args).name g.name ≡ false → copies_fact path args ≡ g → ⊥
-      name g z e = names_apart (copies_fact path args).name g.name z (ap (λ (z : Fact). z.name) e)
-
-      linear' : (q : List ℕ) (b : List Tree) → copies_fact path args ≡ waits_fact q b → ⊥
-      linear' q b e = let h : true ≡ false = ap (λ (z : Fact). z.persistent) e in cc
-
-      go : (a : Agent) → slice_get agents o.thread ≡ Some (Some a) → Member (copies_fact path args) (stands_as a) → CopyStanding agents path args
-      go (unborn body) e m = elim m [ ]
-      go (running q env body) e m = absurd (name (state_fact q (values env)) refl (only_member m))
-      go (copying q env body) e m =
-          let same = only_member m in
-          let paths : path ≡ q = semi_name_same path q (ap (λ (z : Fact). z.name) same) in
-          record { thread = o.thread; env = env; body = body; is = e ∙ ap (λ i. Some (Some (copying i env body))) (sym paths); bound = ap (λ (z : Fact). z.args) same }
-      go (awaiting q env x y i j body g) e m = elim (of_two m) [ first h ↦ absurd (name (msg_fact (fresh g) i j) refl h) | second h ↦ absurd (linear' q (values env ++ fresh g ∷ []) h) ]
-      go (received q env x y body g) e m = elim (of_two m) [ first h ↦ absurd (name (ack_fact (fresh g)) refl h) | second h ↦ absurd (linear' q (values env ++ fresh g ∷ []) h) ]
-
-  pub copy_agent_of : (s : RuleState) (k : ℕ) → SameFacts agents s → slice_get s.facts k ≡ Some (Some (copies_fact path args)) → CopyStanding agents path args
-  copy_agent_of s k same e = copy_standing (owner agents s k (copies_fact path args) same refl e)
-
--- who waits with a message
-pub record MsgOwner (agents : List (Option Agent)) (t x y : Tree) : Type 0 where
-  pub thread : ℕ
-  pub path : List ℕ
-  pub env : Env
-  pub m : Tree
-  pub n : Tree
-  pub body : Proc
-  pub tag : ℕ
-  pub is : slice_get agents thread ≡ Some (Some (awaiting path env m n x y body tag))
-  pub same : t ≡ fresh tag
-
-pub msg_owner : (agents : List (Option Agent)) (t x y : Tree) → Owner agents (msg_fact t x y) → MsgOwner agents t x y
-msg_owner agents t x y o = go o.agent o.is o.stands
-  where
-    name : (g : Fact) → bytes_eq (msg_fact t x y).name g.name ≡ false → msg_fact t x y ≡ g → ⊥
-    name g z e = names_apart (msg_fact t x y).name g.name z (ap (λ (z : Fact). z.name) e)
-
-    go : (a : Agent) → slice_get agents o.thread ≡ Some (Some a) → Member (msg_fact t x y) (stands_as a) → MsgOwner agents t x y
-    go (unborn body) e m = elim m [ ]
-    go (running q env body) e m = absurd (name (state_fact q (values env)) refl (only_member m))
-    go (copying q env body) e m = absurd (name (copies_fact q (values env)) refl (only_member m))
-    go (awaiting q env u v i j body g) e m = elim (of_two m) [
-      | first h ↦ (let args : t ∷ x ∷ y ∷ [] ≡ fresh g ∷ i ∷ j ∷ [] = ap (λ (z : Fact). z.args) h in
-          let a : i ≡ x = cc in
-          let b : j ≡ y = cc in
-          record { thread = o.thread; path = q; env = env; m = u; n = v; body = body; tag = g; is = e ∙ (λ k. Some (Some (awaiting q env u v (a k) (b k) body g))); same = cc })
-      | second h ↦ absurd (name (waits_fact q (values env ++ fresh g ∷ [])) refl h)
-    ]
-    go (received q env u v body g) e m = elim (of_two m) [ first h ↦ absurd (name (ack_fact (fresh g)) refl h) | second h ↦ absurd (name (waits_fact q (values env ++ fresh g ∷ [])) refl h) ]
+-- that of a replication that has started
+pub copy_agent_of : (agents : List (Option Agent)) (path : List ℕ) (args : List Tree) (s : RuleState) (k : ℕ) (same : SameFacts agents s) (e : slice_get s.facts k ≡ Some (Some (copies_fact path args)))
+    → CopyStanding agents (owners agents s same k (copies_fact path args) refl e).thread path args
+copy_agent_of agents path args s k same e = by_owners.copy_agent_of agents path args s k (owners agents s same) e

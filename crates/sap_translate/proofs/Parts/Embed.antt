@@ -3,26 +3,26 @@ use Rattle.sap_translate.specs.Members.{Member}
 use Rattle.sap_formula.specs.Hide.{hide}
 use Rattle.sap_translate.proofs.Traces.Demands.{demands_quiet}
 use Rattle.sap_translate.proofs.Parts.Holders.{locks_set, locks_quiet, longer}
-use Rattle.sap_translate.proofs.Traces.Inputs.{event_frees_none}
+use Rattle.sap_translate.proofs.Shared.Inputs.{event_frees_none}
 use Rattle.sap_translate.proofs.Parts.Kept.{placed_set}
-use Rattle.sap_translate.proofs.Lists.Lookups.{map-set}
+use Rattle.sap_translate.proofs.Shared.Lookups.{map-set}
 use Rattle.sap_translate.proofs.Parts.Parts.{Grows, facts_apart, knowledge_kept, names_kept, quiet_none, trace_rules, trace_silent, spot_below}
 use Rattle.sap_translate.proofs.Terms.Choices.{good-append}
 use Rattle.sap_translate.proofs.Traces.Store.{store_quiet}
-use Rattle.sap_translate.proofs.Lists.Takings.{takes_total}
-use Rattle.sap_translate.proofs.Lists.Totals.{total-set, total-append}
+use Rattle.sap_translate.proofs.Shared.Takings.{takes_total}
+use Rattle.sap_translate.proofs.Shared.Totals.{total-set, total-append}
 use Rattle.sap_translate.proofs.Parts.Users.{user_live, user_fact, users_added, users_spent, said_visible, said_no_init, said_asks_none, said_writes_none, said_locks_none}
 use Rattle.sap_translate.proofs.Traces.Visible.{hide_push}
 use Rattle.sap_translate.specs.relation.Envs.{Env, names, chosen, GoodEnv, values, join}
 use Rattle.sap_translate.specs.Scoped.{IsFree, AreUnreserved}
-use Rattle.sap_translate.specs.ChannelFacts.{fresh_fact}
+use Rattle.sap_templates.specs.ChannelFacts.{fresh_fact}
 use Rattle.sap_translate.specs.relation.Agents.{Agent, running, process_of, IsAt, is_unborn}
 use Rattle.sap_translate.specs.relation.Counts.{count_live, count_owed, count_user, count_fact, count_tag, has_init}
 use Rattle.sap_translate.specs.relation.Related.{Related, TracePart, StorePart}
 use Rattle.sap_place.specs.StateFacts.{state_fact}
-use Rattle.sap_translate.specs.Places.{scoped_place_at, root}
+use Rattle.sap_templates.specs.Places.{scoped_place_at, root}
 use Rattle.sap_process.specs.Places.{place}
-use Rattle.sap_translate.specs.Templates.{first_of, embedded_acts}
+use Rattle.sap_templates.specs.Templates.{first_of, embedded_acts}
 use Rattle.sap_process.specs.Scopes.{with_new}
 use Rattle.sap_process.specs.Configuration.{Config, becomes}
 use Rattle.sap_process.specs.Instance.{process_instance}

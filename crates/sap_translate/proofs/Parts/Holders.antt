@@ -1,10 +1,10 @@
 -- The locks that are open, where a thread moves.
 use Rattle.sap_translate.specs.Members.{Member}
 use Rattle.sap_translate.proofs.Terms.Choices.{put_more}
-use Rattle.sap_translate.proofs.Parts.Facts.{eq_self}
+use Rattle.sap_translate.proofs.Shared.Facts.{eq_self}
 use Rattle.sap_translate.proofs.Parts.LockPart.{lock_quiet}
 use Rattle.sap_translate.proofs.Traces.LockTraces.{NoLock, no_lock_fact, no_unlock_fact}
-use Rattle.sap_translate.proofs.Lists.Lookups.{member_cases, in_left, in_right, member_left, member_right}
+use Rattle.sap_translate.proofs.Shared.Lookups.{member_cases, in_left, in_right, member_left, member_right}
 use Rattle.sap_process.specs.Scopes.{lock_var}
 use Rattle.sap_translate.proofs.Terms.Substitution.{within_more, known-append}
 use Rattle.sap_translate.specs.relation.Envs.{Env, names, join}

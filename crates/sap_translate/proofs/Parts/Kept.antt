@@ -6,32 +6,32 @@ use Rattle.sap_translate.specs.relation.Shown.{MeetsSix}
 use Rattle.sap_formula.specs.Hide.{hide, visible}
 use Rattle.sap_translate.proofs.Traces.Demands.{NoDemand, no_demand_one, no_demand_more, fine_asks_none, demands_quiet, demands_input, fine_writes_none, fine_locks_none}
 use Rattle.sap_translate.proofs.Terms.Derive.{derivation_grows, derivation_push, all_reversed, known_entry, contains}
-use Rattle.sap_translate.proofs.Parts.Facts.{names_apart, eq_true, same_fact_self, same_fact_true}
+use Rattle.sap_translate.proofs.Shared.Facts.{names_apart, eq_true, same_fact_self, same_fact_true}
 use Rattle.sap_translate.proofs.Terms.Forms.{fresh_message}
 use Rattle.sap_translate.proofs.Parts.Holders.{locks_set, locks_none, locks_push, locks_quiet, longer, no_open}
-use Rattle.sap_translate.proofs.Traces.Inputs.{free_know, event_frees_none, input_frees_none, last_same, same_k_fact}
+use Rattle.sap_translate.proofs.Shared.Inputs.{free_know, event_frees_none, input_frees_none, last_same, same_k_fact}
 use Rattle.sap_translate.proofs.Traces.LockTraces.{NoLock, no_lock_none, no_lock_one, no_lock_more}
-use Rattle.sap_translate.proofs.Lists.Lookups.{every-set, every_push, map-set, map_push, map-set_same, only_member, member_left, member_last, member_cases, in_left, in_right}
+use Rattle.sap_translate.proofs.Shared.Lookups.{every-set, every_push, map-set, map_push, map-set_same, only_member, member_left, member_last, member_cases, in_left, in_right}
 use Rattle.sap_translate.proofs.Terms.Choices.{good_none, good_just, just_free, good-append}
 use Rattle.sap_translate.proofs.Parts.Parts.{Grows, facts_apart, knowledge_kept, names_kept, quiet_none, quiet_init, trace_rules, trace_acts, trace_silent, spot_below, without_absent, trace_both}
 use Rattle.sap_translate.proofs.Traces.Store.{NoWrite, no_write_one, no_write_more, store_quiet}
 use Rattle.sap_translate.proofs.Terms.Substitution.{instance_append, instance_none}
-use Rattle.sap_translate.proofs.Lists.Takings.{takes_total, takes_every, every-adds}
-use Rattle.sap_translate.proofs.Lists.Totals.{total-set, total-append}
+use Rattle.sap_translate.proofs.Shared.Takings.{takes_total, takes_every, every-adds}
+use Rattle.sap_translate.proofs.Shared.Totals.{total-set, total-append}
 use Rattle.sap_translate.proofs.Traces.Visible.{hide_push, event_visible, event_no_init}
 use Rattle.sap_translate.specs.relation.Envs.{Env, names, chosen, GoodEnv, values, no_env, just, join}
 use Rattle.sap_translate.specs.Scoped.{IsFree}
 use Rattle.sap_translate.specs.relation.Names.{same_fact}
-use Rattle.sap_translate.specs.ChannelFacts.{fresh_fact}
+use Rattle.sap_templates.specs.ChannelFacts.{fresh_fact}
 use Rattle.sap_translate.specs.relation.Totals.{total}
 use Rattle.sap_translate.specs.OpenLocks.{UnlocksAreOpen}
 use Rattle.sap_translate.specs.relation.Related.{Covered, TracePart, Related, Free, Retractable, StorePart}
 use Rattle.sap_translate.specs.relation.Agents.{Agent, unborn, running, copying, process_of, IsAt, Placed, AllPlaced, is_unborn}
 use Rattle.sap_translate.specs.relation.Counts.{count_live, count_owed, count_fact, count_name, count_tag, has_init, count_user}
 use Rattle.sap_place.specs.StateFacts.{state_fact, copies_fact}
-use Rattle.sap_translate.specs.Places.{scoped_place_at, root, child, ScopedPlace}
+use Rattle.sap_templates.specs.Places.{scoped_place_at, root, child, ScopedPlace}
 use Rattle.sap_process.specs.Places.{place}
-use Rattle.sap_translate.specs.Templates.{first_of, second_of}
+use Rattle.sap_templates.specs.Templates.{first_of, second_of}
 use Rattle.sap_process.specs.Configuration.{Config, initial, becomes, spawns, makes, owns, sends_out, CanGive}
 use Rattle.sap_process.specs.Instance.{process_instance, without}
 use Rattle.sap_process.specs.Proc.{Proc, act}

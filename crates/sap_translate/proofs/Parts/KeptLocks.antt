@@ -4,21 +4,21 @@ use Rattle.sap_restrict.specs.ReservedFacts.{lock_fact, unlock_fact}
 use Rattle.sap_translate.specs.Members.{Member}
 use Rattle.sap_translate.proofs.Terms.Choices.{put_more, good_just, just_free, good-append, join_new}
 use Rattle.sap_translate.proofs.Traces.Demands.{other, demands_quiet, demands_lock, no_demand_one}
-use Rattle.sap_translate.proofs.Parts.Facts.{eq_self}
+use Rattle.sap_translate.proofs.Shared.Facts.{eq_self}
 use Rattle.sap_translate.proofs.Terms.Forms.{fresh_message}
 use Rattle.sap_translate.proofs.Parts.Holders.{every_at_set, longer, among_others, Split, split_at, but_one, member_counts, closed_other}
 use Rattle.sap_translate.proofs.Parts.Kept.{placed_set, cond_cond, state_no_out}
 use Rattle.sap_translate.proofs.Parts.LockPart.{lock_step, unlock_step}
-use Rattle.sap_translate.proofs.Lists.Lookups.{map-set, member_left, member_right}
+use Rattle.sap_translate.proofs.Shared.Lookups.{map-set, member_left, member_right}
 use Rattle.sap_translate.proofs.Parts.Parts.{Grows, knowledge_kept, names_held, trace_both, spot_below}
 use Rattle.sap_translate.proofs.Traces.Store.{no_write_one, store_quiet}
 use Rattle.sap_translate.proofs.Terms.Substitution.{within_more, known-append, member_known}
-use Rattle.sap_translate.proofs.Lists.Takings.{takes_total}
-use Rattle.sap_translate.proofs.Lists.Totals.{total-set, total-append}
+use Rattle.sap_translate.proofs.Shared.Takings.{takes_total}
+use Rattle.sap_translate.proofs.Shared.Totals.{total-set, total-append}
 use Rattle.sap_translate.proofs.Terms.Unused.{instance_same_on}
 use Rattle.sap_translate.specs.relation.Envs.{Env, names, chosen, values, just, join}
 use Rattle.sap_translate.specs.Scoped.{IsFree, Within}
-use Rattle.sap_translate.specs.ChannelFacts.{fresh_fact}
+use Rattle.sap_templates.specs.ChannelFacts.{fresh_fact}
 use Rattle.sap_translate.specs.relation.Totals.{total}
 use Rattle.sap_translate.specs.relation.Locks.{Holder, LockPart}
 use Rattle.sap_translate.specs.OpenLocks.{closed, IsUnusedIn}
@@ -26,9 +26,9 @@ use Rattle.sap_translate.specs.relation.Agents.{Agent, running, process_of, IsAt
 use Rattle.sap_translate.specs.relation.Counts.{count_live, count_owed, count_user, count_tag, count_name, count_holder, has_init}
 use Rattle.sap_translate.specs.relation.Related.{Related, Holding, Covered}
 use Rattle.sap_place.specs.StateFacts.{state_fact}
-use Rattle.sap_translate.specs.Places.{root}
+use Rattle.sap_templates.specs.Places.{root}
 use Rattle.sap_process.specs.Places.{place}
-use Rattle.sap_translate.specs.Templates.{first_of}
+use Rattle.sap_templates.specs.Templates.{first_of}
 use Rattle.sap_process.specs.Scopes.{lock_var}
 use Rattle.sap_process.specs.Configuration.{Config, becomes, holding, marked}
 use Rattle.sap_process.specs.Instance.{process_instance}

@@ -1,9 +1,9 @@
 -- The part of the relation on locks, over the list of who holds what.
 use Rattle.sap_restrict.specs.ReservedFacts.{lock_fact, unlock_fact}
 use Rattle.sap_translate.specs.Members.{Member}
-use Rattle.sap_translate.proofs.Traces.Inputs.{has_more, has_where, old, new}
+use Rattle.sap_translate.proofs.Shared.Inputs.{has_more, has_where, old, new}
 use Rattle.sap_translate.proofs.Traces.LockTraces.{lock_holds, lock_still, unlock_frees, only_kept, still_kept, held_not_free}
-use Rattle.sap_translate.proofs.Lists.Lookups.{only_member, member_cases, in_left, in_right, member_left, member_right}
+use Rattle.sap_translate.proofs.Shared.Lookups.{only_member, member_cases, in_left, in_right, member_left, member_right}
 use Rattle.sap_translate.specs.relation.Locks.{LockFree, OnlyHolder, StillHeld, Holder, LockPart}
 use Rattle.sap_process.specs.Configuration.{marked}
 use Rattle.sap_terms.proofs.PlainLaws.Tests.{same_tree-refl, same_tree-sound}

@@ -1,30 +1,22 @@
 -- Who stands as a live fact: by the counts, whatever the form; and the one owner of a tag.
 use Rattle.sap_translate.specs.Members.{Member}
-use Rattle.sap_translate.proofs.Parts.Facts.{same_fact_self, same_fact_true, names_apart, eq_self}
-use Rattle.sap_translate.proofs.Traces.Inputs.{last_same, init_same}
-use Rattle.sap_translate.proofs.Lists.Lookups.{only_member}
-use Rattle.sap_translate.proofs.Lists.Totals.{total-set, total_found, Found}
-use Rattle.sap_translate.specs.relation.Envs.{Env, names, values}
-use Rattle.sap_translate.specs.relation.Names.{same_fact, semi_name}
-use Rattle.sap_translate.specs.ChannelFacts.{msg_fact, ack_fact}
+use Rattle.sap_translate.proofs.Shared.Facts.{same_fact_self, same_fact_true}
+use Rattle.sap_translate.proofs.Shared.Owners as by_owners
+use Rattle.sap_translate.proofs.Shared.Owners.{Handshake, Owner, Owners}
+use Rattle.sap_translate.proofs.Shared.Totals.{total-set, total_found, Found}
+use Rattle.sap_translate.specs.relation.Names.{same_fact}
+use Rattle.sap_templates.specs.ChannelFacts.{ack_fact}
 use Rattle.sap_translate.specs.relation.Totals.{total}
 use Rattle.sap_translate.specs.relation.Locks.{Holder}
-use Rattle.sap_translate.specs.relation.Agents.{Agent, unborn, running, copying, awaiting, received, stands_as}
-use Rattle.sap_translate.specs.relation.Counts.{SameFacts, count_one, count_live, count_owed, count_name, count_tag, is_control}
+use Rattle.sap_translate.specs.relation.Agents.{Agent, stands_as}
+use Rattle.sap_translate.specs.relation.Counts.{SameFacts, count_one, count_live, count_owed, is_control}
 use Rattle.sap_translate.specs.relation.Related.{NamesPart}
-use Rattle.sap_place.specs.StateFacts.{state_fact, copies_fact, waits_fact, digits}
+use Rattle.sap_place.specs.StateFacts.{waits_fact}
 use Rattle.sap_process.specs.Configuration.{Config}
-use Rattle.sap_process.specs.Proc.{Proc}
 use Rattle.sap_rule.specs.RuleSteps.{RuleState}
-use Rattle.sap_terms.specs.Tree.{Tree, fresh}
+use Rattle.sap_terms.specs.Tree.{Tree}
 use Rattle.sap_terms.specs.declared.fact.Fact.{Fact}
-use Rattle.std.proofs.Common.{◌≡◌, ℕ, zero, suc, ◌+◌, ◌<◌, ◌≤◌, List, [], ◌∷◌, ◌++◌, Option, Some, None, refl, sym, ap, ◌∙◌, arith, Bool, true, false, cond, slice_get, subst}
-
-pub record Owner (agents : List (Option Agent)) (f : Fact) : Type 0 where
-  pub thread : ℕ
-  pub agent : Agent
-  pub is : slice_get agents thread ≡ Some (Some agent)
-  pub stands : Member f (stands_as agent)
+use Rattle.std.proofs.Common.{◌≡◌, ℕ, zero, suc, ◌+◌, ◌<◌, List, [], ◌∷◌, ◌++◌, Option, Some, None, refl, ap, ◌∙◌, arith, Bool, true, false, cond, slice_get, subst}
 
 cond_pos : (b : Bool) (n : ℕ) → 0 < cond b n 0 → (b ≡ true) × (0 < n)
 cond_pos true n h = (refl, h)
@@ -62,182 +54,12 @@ owner agents s k f same control e =
           stands = counted_member f (stands_as a) (subst (λ i. 0 < count_owed (same_fact f) i) g x.counts);
         }
 
--- which agents stand as a message, an acknowledgement, a waiting sender
-
-no_member : (f : Fact) (fs : List Fact) → fs ≡ [] → Member f fs → ⊥
-no_member f [] e m = elim m [ ]
-no_member f (g ∷ fs) e m = cc
-
-differs : (f g : Fact) → (f.name ≡ g.name → ⊥) → f ≡ g → ⊥
-differs f g h e = h (ap (λ (z : Fact). z.name) e)
-
--- a member of two facts
-pub data OfTwo (f a b : Fact) : Type 0 where
-  first : f ≡ a → OfTwo f a b
-  second : f ≡ b → OfTwo f a b
-
-pub of_two : {f a b : Fact} → Member f (a ∷ b ∷ []) → OfTwo f a b
-of_two Member.here = first refl
-of_two (Member.later m) = second (only_member m)
-
-pub record AckOwner (agents : List (Option Agent)) (t : Tree) : Type 0 where
-  pub thread : ℕ
-  pub path : List ℕ
-  pub env : Env
-  pub m : Tree
-  pub n : Tree
-  pub body : Proc
-  pub tag : ℕ
-  pub is : slice_get agents thread ≡ Some (Some (received path env m n body tag))
-  pub same : t ≡ fresh tag
-
-ack_arg : (t u : Tree) → ack_fact t ≡ ack_fact u → t ≡ u
-ack_arg t u e = let h : (ack_fact t).args ≡ (ack_fact u).args = ap (λ (z : Fact). z.args) e in cc
-
-ack_state : (t : Tree) (path : List ℕ) (args : List Tree) → ack_fact t ≡ state_fact path args → ⊥
-ack_state t path args = differs (ack_fact t) (state_fact path args) (λ e. names_apart (ack_fact t).name (state_fact path args).name refl e)
-
-ack_semi : (t : Tree) (path : List ℕ) (args : List Tree) → ack_fact t ≡ copies_fact path args → ⊥
-ack_semi t path args = differs (ack_fact t) (copies_fact path args) (λ e. names_apart (ack_fact t).name (copies_fact path args).name refl e)
-
-ack_sent : (t : Tree) (path : List ℕ) (args : List Tree) → ack_fact t ≡ waits_fact path args → ⊥
-ack_sent t path args = differs (ack_fact t) (waits_fact path args) (λ e. names_apart (ack_fact t).name (waits_fact path args).name refl e)
-
-ack_msg : (t u x y : Tree) → ack_fact t ≡ msg_fact u x y → ⊥
-ack_msg t u x y = differs (ack_fact t) (msg_fact u x y) (λ e. names_apart (ack_fact t).name (msg_fact u x y).name refl e)
-
-pub ack_owner : (agents : List (Option Agent)) (t : Tree) → Owner agents (ack_fact t) → AckOwner agents t
-ack_owner agents t o = go o.agent o.is o.stands
-  where
-    go : (a : Agent) → slice_get agents o.thread ≡ Some (Some a) → Member (ack_fact t) (stands_as a) → AckOwner agents t
-    go (unborn body) e m = elim m [ ]
-    go (running path env body) e m = absurd (ack_state t path (values env) (only_member m))
-    go (copying path env body) e m = absurd (ack_semi t path (values env) (only_member m))
-    go (awaiting path env x y i j body g) e m = elim (of_two m) [
-      | first h ↦ absurd (ack_msg t (fresh g) i j h)
-      | second h ↦ absurd (ack_sent t path (values env ++ fresh g ∷ []) h)
-    ]
-    go (received path env x y body g) e m = elim (of_two m) [
-      | first h ↦ record { thread = o.thread; path = path; env = env; m = x; n = y; body = body; tag = g; is = e; same = ack_arg t (fresh g) h }
-      | second h ↦ absurd (ack_sent t path (values env ++ fresh g ∷ []) h)
-    ]
-
--- the owner of a linear semi-state carries its tag
-pub record SentOwner (agents : List (Option Agent)) (path : List ℕ) (t : Tree) (args : List Tree) : Type 0 where
-  pub thread : ℕ
-  pub agent : Agent
-  pub is : slice_get agents thread ≡ Some (Some agent)
-  pub stands : Member (waits_fact path (args ++ t ∷ [])) (stands_as agent)
-  pub tag : ℕ
-  pub same : t ≡ fresh tag
-  pub counts : count_tag tag (Some agent) ≡ 1
-
-sent_tag : (path q : List ℕ) (t u : Tree) (a b : List Tree) → waits_fact path (a ++ t ∷ []) ≡ waits_fact q (b ++ u ∷ []) → t ≡ u
-sent_tag path q t u a b e = last_same a b t u (ap (λ (z : Fact). z.args) e)
-
-self_counts : (n : ℕ) → count_name n n ≡ 1
-self_counts n = rw (eq_self n) refl
-
-pub sent_owner : (agents : List (Option Agent)) (path : List ℕ) (t : Tree) (args : List Tree) → Owner agents (waits_fact path (args ++ t ∷ [])) → SentOwner agents path t args
-sent_owner agents path t args o = go o.agent o.is o.stands
-  where
-    f : Fact
-    f = waits_fact path (args ++ t ∷ [])
-
-    state : (q : List ℕ) (b : List Tree) → waits_fact path (args ++ t ∷ []) ≡ state_fact q b → ⊥
-    state q b = differs (waits_fact path (args ++ t ∷ [])) (state_fact q b) (λ e. names_apart (waits_fact path (args ++ t ∷ [])).name (state_fact q b).name refl e)
-
-    semi : (q : List ℕ) (b : List Tree) → waits_fact path (args ++ t ∷ []) ≡ copies_fact q b → ⊥
-    semi q b e = let h : false ≡ true = ap (λ (z : Fact). z.persistent) e in cc
-
-    msg : (u x y : Tree) → waits_fact path (args ++ t ∷ []) ≡ msg_fact u x y → ⊥
-    msg u x y = differs (waits_fact path (args ++ t ∷ [])) (msg_fact u x y) (λ e. names_apart (waits_fact path (args ++ t ∷ [])).name (msg_fact u x y).name refl e)
-
-    ack : (u : Tree) → waits_fact path (args ++ t ∷ []) ≡ ack_fact u → ⊥
-    ack u = differs (waits_fact path (args ++ t ∷ [])) (ack_fact u) (λ e. names_apart (waits_fact path (args ++ t ∷ [])).name (ack_fact u).name refl e)
-
-    go : (a : Agent) → slice_get agents o.thread ≡ Some (Some a) → Member (waits_fact path (args ++ t ∷ [])) (stands_as a) → SentOwner agents path t args
-    go (unborn body) e m = elim m [ ]
-    go (running q env body) e m = absurd (state q (values env) (only_member m))
-    go (copying q env body) e m = absurd (semi q (values env) (only_member m))
-    go (awaiting q env x y i j body g) e m = elim (of_two m) [
-      | first h ↦ absurd (msg (fresh g) i j h)
-      | second h ↦ record { thread = o.thread; agent = awaiting q env x y i j body g; is = e; stands = m; tag = g; same = sent_tag path q t (fresh g) args (values env) h; counts = self_counts g }
-    ]
-    go (received q env x y body g) e m = elim (of_two m) [
-      | first h ↦ absurd (ack (fresh g) h)
-      | second h ↦ record { thread = o.thread; agent = received q env x y body g; is = e; stands = m; tag = g; same = sent_tag path q t (fresh g) args (values env) h; counts = self_counts g }
-    ]
-
--- two things that weigh 1 where all weigh at most 1 are at one place
-one_place : {A : Type 0} (w : A → ℕ) (xs : List A) (i : ℕ) (x : A) → slice_get xs i ≡ Some x → w x ≤ total w xs
-one_place w [] i x e = absurd (cc)
-one_place w (z ∷ xs) zero x e = let same : w z ≡ w x = cc in omega arith
-one_place w (z ∷ xs) (suc i) x e = let h = one_place w xs i x e in omega arith
-
-pub same_time : {A : Type 0} (w : A → ℕ) (xs : List A) (i j : ℕ) (x y : A) → slice_get xs i ≡ Some x → slice_get xs j ≡ Some y → w x ≡ 1 → w y ≡ 1 → total w xs ≤ 1 → i ≡ j
-same_time w [] i j x y e f g h k = absurd (cc)
-same_time w (z ∷ xs) zero zero x y e f g h k = refl
-same_time w (z ∷ xs) zero (suc j) x y e f g h k = let a : w z ≡ w x = cc in let b = one_place w xs j y f in absurd (omega arith)
-same_time w (z ∷ xs) (suc i) zero x y e f g h k = let a : w z ≡ w y = cc in let b = one_place w xs i x e in absurd (omega arith)
-same_time w (z ∷ xs) (suc i) (suc j) x y e f g h k = ap suc (same_time w xs i j x y e f g h (omega arith))
+-- so each has one
+pub owners : (agents : List (Option Agent)) (s : RuleState) → SameFacts agents s → Owners agents s
+owners agents s same = λ k f control e. owner agents s k f same control e
 
 -- an acknowledgement and a linear semi-state with one tag are one sender's
-pub record Handshake (agents : List (Option Agent)) (path : List ℕ) (t : Tree) (args : List Tree) : Type 0 where
-  pub thread : ℕ
-  pub env : Env
-  pub m : Tree
-  pub n : Tree
-  pub body : Proc
-  pub tag : ℕ
-  pub is : slice_get agents thread ≡ Some (Some (received path env m n body tag))
-  pub same : t ≡ fresh tag
-  pub bound : args ≡ values env
-
-digits_same : (p q : List ℕ) → digits p ≡ digits q → p ≡ q
-digits_same [] [] e = refl
-digits_same [] (y ∷ q) e = absurd (cc)
-digits_same (x ∷ p) [] e = absurd (cc)
-digits_same (x ∷ p) (y ∷ q) e =
-    let head : 48 + x ≡ 48 + y = cc in
-    let tail : digits p ≡ digits q = cc in
-    let same : x ≡ y = omega arith in
-    let rest : p ≡ q = digits_same p q tail in
-    cc
-
-semi_name_same : (p q : List ℕ) → semi_name p ≡ semi_name q → p ≡ q
-semi_name_same p q e = digits_same p q (cc)
-
-pub handshake : {holders : List Holder} (agents : List (Option Agent)) (c : Config) (s : RuleState) (i j : ℕ) (path : List ℕ) (t : Tree) (args : List Tree) → SameFacts agents s → NamesPart agents c s holders → slice_get s.facts i ≡ Some (Some (waits_fact path (args ++ t ∷ []))) → slice_get s.facts j ≡ Some (Some (ack_fact t)) → Handshake agents path t args
-handshake agents c s i j path t args same names e f =
-    let a = ack_owner agents t (owner agents s j (ack_fact t) same refl f) in
-    let b = sent_owner agents path t args (owner agents s i (waits_fact path (args ++ t ∷ [])) same refl e) in
-    let tags : fresh a.tag ≡ fresh b.tag = sym a.same ∙ b.same in
-    let tag : a.tag ≡ b.tag = cc in
-    let once = names.once b.tag in
-    let shares = names.shares b.tag in
-    let one : count_tag b.tag (Some (received a.path a.env a.m a.n a.body a.tag)) ≡ 1 = ap (λ k. count_name b.tag k) tag ∙ self_counts b.tag in
-    let place : a.thread ≡ b.thread = same_time (count_tag b.tag) agents a.thread b.thread (Some (received a.path a.env a.m a.n a.body a.tag)) (Some b.agent) a.is b.is one b.counts (omega arith) in
-    let agent : Some (Some (received a.path a.env a.m a.n a.body a.tag)) ≡ Some (Some b.agent) = sym a.is ∙ ap (λ k. slice_get agents k) place ∙ b.is in
-    let agent' : received a.path a.env a.m a.n a.body a.tag ≡ b.agent = some_some agent in
-    by_two a (of_two (subst (λ z. Member (waits_fact path (args ++ t ∷ [])) (stands_as z)) (sym agent') b.stands))
-  where
-    some_some : {x y : Agent} → Some (Some x) ≡ Some (Some y) → x ≡ y
-    some_some h = cc
-
-    by_two : (a : AckOwner agents t) → OfTwo (waits_fact path (args ++ t ∷ [])) (ack_fact (fresh a.tag)) (waits_fact a.path (values a.env ++ fresh a.tag ∷ [])) → Handshake agents path t args
-    by_two a (first h) = absurd (ack_sent (fresh a.tag) path (args ++ t ∷ []) (sym h))
-    by_two a (second h) =
-        let paths : path ≡ a.path = semi_name_same path a.path (ap (λ (z : Fact). z.name) h) in
-        let rest : args ++ t ∷ [] ≡ values a.env ++ fresh a.tag ∷ [] = ap (λ (z : Fact). z.args) h in
-        record {
-          thread = a.thread;
-          env = a.env;
-          m = a.m;
-          n = a.n;
-          body = a.body;
-          tag = a.tag;
-          is = a.is ∙ ap (λ q. Some (Some (received q a.env a.m a.n a.body a.tag))) (sym paths);
-          same = a.same;
-          bound = init_same args (values a.env) t (fresh a.tag) rest;
-        }
+pub handshake : {holders : List Holder} (agents : List (Option Agent)) (c : Config) (s : RuleState) (i j : ℕ) (path : List ℕ) (t : Tree) (args : List Tree) → (same : SameFacts agents s) → NamesPart agents c s holders
+    → (there : slice_get s.facts i ≡ Some (Some (waits_fact path (args ++ t ∷ [])))) → (ack : slice_get s.facts j ≡ Some (Some (ack_fact t)))
+    → Handshake agents (owners agents s same i (waits_fact path (args ++ t ∷ [])) refl there).thread (owners agents s same j (ack_fact t) refl ack).thread path t args
+handshake agents c s i j path t args same names there ack = by_owners.handshake agents c s i j path t args (owners agents s same) names there ack

@@ -5,21 +5,21 @@ use Rattle.sap_translate.specs.relation.Shown.{MeetsSix}
 use Rattle.sap_formula.specs.Hide.{hide, visible}
 use Rattle.sap_translate.proofs.Traces.Demands.{NoDemand, no_demand_none, no_demand_one, demands_quiet}
 use Rattle.sap_translate.proofs.Terms.Derive.{derivation_grows, deducible_grows_to}
-use Rattle.sap_translate.proofs.Traces.Inputs.{free_quiet}
+use Rattle.sap_translate.proofs.Shared.Inputs.{free_quiet}
 use Rattle.sap_translate.proofs.Traces.Store.{NoWrite, no_write_none, no_write_one, store_quiet}
-use Rattle.sap_translate.proofs.Parts.Facts.{same_name_true}
-use Rattle.sap_translate.proofs.Lists.Takings.{spent, takes_total, takes_every, every-adds}
-use Rattle.sap_translate.proofs.Lists.Totals.{total-append}
+use Rattle.sap_translate.proofs.Shared.Facts.{same_name_true}
+use Rattle.sap_translate.proofs.Shared.Takings.{spent, takes_total, takes_every, every-adds}
+use Rattle.sap_translate.proofs.Shared.Totals.{total-append}
 use Rattle.sap_translate.proofs.Traces.Visible.{hide_push}
 use Rattle.sap_translate.specs.relation.Envs.{Env, names, chosen}
 use Rattle.sap_translate.specs.Scoped.{IsFree}
-use Rattle.sap_translate.specs.ChannelFacts.{fresh_fact}
+use Rattle.sap_templates.specs.ChannelFacts.{fresh_fact}
 use Rattle.sap_translate.specs.relation.Totals.{total}
 use Rattle.sap_translate.specs.relation.Locks.{Holder}
 use Rattle.sap_translate.specs.relation.Counts.{count_holder, count_tag, count_fact, count_name}
 use Rattle.sap_translate.specs.relation.Agents.{Agent}
 use Rattle.sap_translate.specs.relation.Related.{NamesPart, KnowledgePart, TracePart, pending_place, StorePart}
-use Rattle.sap_translate.specs.Places.{scoped_place_at, child, ScopedPlace}
+use Rattle.sap_templates.specs.Places.{scoped_place_at, child, ScopedPlace}
 use Rattle.sap_process.specs.Configuration.{Config, CanGive}
 use Rattle.sap_process.specs.Instance.{without}
 use Rattle.sap_process.specs.Proc.{Proc}

@@ -1,8 +1,8 @@
 -- The rules of a process are those of its places.
 use Rattle.sap_translate.specs.Members.{Member}
-use Rattle.sap_translate.proofs.Lists.Lookups.{member_left, member_right, member_cases, in_left, in_right}
-use Rattle.sap_translate.specs.Places.{ScopedPlace, child, scope_handed_down, scoped_place_at}
-use Rattle.sap_translate.specs.Templates.{first_of, init_rule, own_rules, place_rules, rules_of, second_of}
+use Rattle.sap_translate.proofs.Shared.Lookups.{member_left, member_right, member_cases, in_left, in_right}
+use Rattle.sap_templates.specs.Places.{ScopedPlace, child, scope_handed_down, scoped_place_at}
+use Rattle.sap_templates.specs.Templates.{first_of, init_rule, own_rules, place_rules, rules_of, second_of}
 use Rattle.sap_process.specs.Scopes.{scope_behind}
 use Rattle.sap_process.specs.Places.{place, places, places_from}
 use Rattle.sap_process.specs.Proc.{Proc, act}

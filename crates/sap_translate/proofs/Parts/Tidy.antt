@@ -3,9 +3,9 @@ use Rattle.sap_translate.proofs.Premises.LowerLaws.{Laws}
 use Rattle.sap_translate.specs.Members.{Member}
 use Rattle.sap_translate.proofs.Terms.Derive.{member}
 use Rattle.sap_translate.proofs.Terms.Forms.{IsTidy, public_normal, fresh_normal, forms_are_facts, nf_facts_tidy}
-use Rattle.sap_translate.proofs.Lists.Lookups.{Every, only_member, every_member_push}
-use Rattle.sap_translate.proofs.Lists.Takings.{takes_every, every-adds, taken_each}
-use Rattle.sap_translate.specs.ChannelFacts.{fresh_fact}
+use Rattle.sap_translate.proofs.Shared.Lookups.{Every, only_member, every_member_push}
+use Rattle.sap_translate.proofs.Shared.Takings.{takes_every, every-adds, taken_each}
+use Rattle.sap_templates.specs.ChannelFacts.{fresh_fact}
 use Rattle.sap_rule.specs.RuleSteps.{RuleState, RuleStep, RuleRun}
 use Rattle.sap_rule.specs.declared.rule.Rule.{Rule}
 use Rattle.sap_terms.specs.AdversaryFacts.{out_fact, in_fact}

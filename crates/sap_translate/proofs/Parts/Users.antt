@@ -3,16 +3,16 @@ use Rattle.sap_restrict.specs.ReservedFacts.{init_fact, event_fact}
 use Rattle.sap_translate.specs.Members.{Member}
 use Rattle.sap_formula.specs.Hide.{is_hidden, visible}
 use Rattle.sap_translate.proofs.Traces.Demands.{is_demand, fine_asks_none, fine_writes_none, fine_locks_none, NoDemand}
-use Rattle.sap_translate.proofs.Parts.Facts.{same_fact_true, not_reserved}
+use Rattle.sap_translate.proofs.Shared.Facts.{same_fact_true, not_reserved}
 use Rattle.sap_translate.proofs.Traces.LockTraces.{NoLock, is_lock}
 use Rattle.sap_translate.proofs.Traces.Store.{NoWrite, is_write}
-use Rattle.sap_translate.proofs.Lists.Takings.{spent}
+use Rattle.sap_translate.proofs.Shared.Takings.{spent}
 use Rattle.sap_translate.proofs.Traces.Visible.{not_hidden, not_init}
 use Rattle.sap_translate.specs.relation.Names.{same_fact}
 use Rattle.sap_translate.specs.relation.Totals.{total}
 use Rattle.sap_translate.specs.Scoped.{AreUnreserved}
 use Rattle.sap_translate.specs.relation.Counts.{count_live, count_fact, is_control, has_init}
-use Rattle.sap_translate.specs.Templates.{embedded_acts}
+use Rattle.sap_templates.specs.Templates.{embedded_acts}
 use Rattle.sap_terms.specs.Choice.{Choice}
 use Rattle.sap_terms.specs.Modulo.{instance_fact, AreEqualFacts, AreFormsOfFacts}
 use Rattle.sap_terms.specs.Reserved.{is_reserved, reserved_words}

@@ -27,9 +27,9 @@ use Rattle.sap_translate.proofs.Premises.Sound.{well_formed_sound}
 use Rattle.sap_translate.specs.OpenLocks.{UnlocksAreOpen, closed}
 use Rattle.sap_translate.specs.relation.Labels.{label_names, LabelsApart, HasLabels, action_labelled, labelled, IsRelabelled}
 use Rattle.sap_process.specs.Scopes.{lock_var}
-use Rattle.sap_translate.proofs.Lists.Lookups.{member_left, member_right}
+use Rattle.sap_translate.proofs.Shared.Lookups.{member_left, member_right}
 use Rattle.sap_translate.proofs.Terms.Derive.{member, contains}
-use Rattle.sap_translate.proofs.Parts.Facts.{eq_true}
+use Rattle.sap_translate.proofs.Shared.Facts.{eq_true}
 
 -- an unlock of this label stands at the head, or somewhere
 abbrev HeadCarries : ℕ → Action → Type 0

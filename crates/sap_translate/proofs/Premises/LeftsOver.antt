@@ -19,7 +19,7 @@ use Rattle.sap_process.specs.Ready.{IsReady}
 use Rattle.sap_process.specs.Sites.{var_names, message_var}
 use Rattle.sap_process.specs.Sorted.{by_binder, with_sorts}
 use Rattle.sap_rule.specs.WellMade.{IsWellMade}
-use Rattle.sap_translate.specs.Templates.{rules_of}
+use Rattle.sap_templates.specs.Templates.{rules_of}
 use Rattle.sap_translate.specs.relation.Labels.{IsRelabelled, labelled}
 use Rattle.sap_translate.specs.relation.Spelled.{FactsOver}
 use Rattle.sap_translate.proofs.Premises.Annotations.{annotation_is}

@@ -15,16 +15,16 @@ use Rattle.sap_terms.specs.declared.fact.Fact.{Fact}
 use Rattle.sap_terms.specs.declared.var.Sort.TheVariants.{Msg}
 use Rattle.sap_rule.specs.RuleSteps.{RuleState, RuleStep, RuleRun}
 use Rattle.sap_rule.specs.declared.rule.Rule.{Rule}
-use Rattle.sap_translate.specs.ChannelFacts.{fresh_fact}
+use Rattle.sap_templates.specs.ChannelFacts.{fresh_fact}
 use Rattle.sap_translate.specs.relation.Modulo.{AreNormalTerms}
 use Rattle.sap_translate.specs.relation.Spelled.{TermsOver, FactsOver, ActOver, ActsOver, RulesOver}
 use Rattle.sap_translate.specs.relation.Tidy.{AreMessageTerms, IsTidyFact, IsTidyTrace}
 use Rattle.sap_translate.proofs.Terms.Derive.{member, members_of}
 use Rattle.sap_translate.proofs.Terms.Forms.{nf_fact, nf_facts, public_normal, fresh_normal, forms_are_facts, equal_are_facts}
-use Rattle.sap_translate.proofs.Traces.Inputs.{old, new, has_where}
-use Rattle.sap_translate.proofs.Lists.Lookups.{Every, only_member, every_member_push}
+use Rattle.sap_translate.proofs.Shared.Inputs.{old, new, has_where}
+use Rattle.sap_translate.proofs.Shared.Lookups.{Every, only_member, every_member_push}
 use Rattle.sap_translate.proofs.Premises.Spelled.{rule_over}
-use Rattle.sap_translate.proofs.Lists.Takings.{takes_every, every-adds, taken_each}
+use Rattle.sap_translate.proofs.Shared.Takings.{takes_every, every-adds, taken_each}
 
 -- what a choice of messages makes of a term over the signature
 mutual

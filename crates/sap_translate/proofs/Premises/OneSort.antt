@@ -13,8 +13,8 @@ use Rattle.sap_process.specs.Sites.{var_names, fresh_var}
 use Rattle.sap_translate.specs.Members.{Member}
 use Rattle.sap_translate.specs.Scoped.{IsFree}
 use Rattle.sap_translate.specs.Sound.{IsSoundAction}
-use Rattle.sap_translate.proofs.Lists.Lookups.{member_cases, in_left, in_right, only_member, member_right}
-use Rattle.sap_translate.proofs.Parts.Facts.{same_name_self}
+use Rattle.sap_translate.proofs.Shared.Lookups.{member_cases, in_left, in_right, only_member, member_right}
+use Rattle.sap_translate.proofs.Shared.Facts.{same_name_self}
 use Rattle.sap_translate.proofs.Premises.Sorting.{sorted, sorted_is, sorted_new, has_binder, HasBinder}
 use Rattle.sap_translate.proofs.Terms.Substitution.{new_free}
 

@@ -10,9 +10,9 @@ use Rattle.sap_process.specs.Sites.{message_var}
 use Rattle.sap_rule.specs.Named.{rule_named, HaveNamesOfTheirOwn}
 use Rattle.sap_rule.specs.declared.rule.Rule.{Rule}
 use Rattle.sap_translate.specs.Members.{Member}
-use Rattle.sap_translate.specs.Templates.{first_of, second_of, own_rules, place_rules, init_rule, rules_of}
-use Rattle.sap_translate.proofs.Lists.Lookups.{member_cases, in_left, in_right}
-use Rattle.sap_translate.proofs.Parts.Facts.{same_name_true}
+use Rattle.sap_templates.specs.Templates.{first_of, second_of, own_rules, place_rules, init_rule, rules_of}
+use Rattle.sap_translate.proofs.Shared.Lookups.{member_cases, in_left, in_right}
+use Rattle.sap_translate.proofs.Shared.Facts.{same_name_true}
 use Rattle.sap_translate.proofs.Parts.Places.{home}
 use Rattle.sap_translate.proofs.Premises.RuleNames.{named_by_places}
 use Rattle.sap_translate.proofs.Terms.Derive.{contains}

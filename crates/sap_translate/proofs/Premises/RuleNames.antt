@@ -7,7 +7,7 @@ use Rattle.sap_process.specs.Action as action
 use Rattle.sap_process.specs.Proc as whole
 use Rattle.sap_process.specs.Proc.{Proc, act}
 use Rattle.sap_rule.specs.declared.rule.Rule.{Rule}
-use Rattle.sap_translate.specs.Templates.{own_rules}
+use Rattle.sap_templates.specs.Templates.{own_rules}
 use Rattle.sap_translate.specs.Members.{Member}
 use Rattle.sap_translate.proofs.Terms.Derive.{member}
 

@@ -20,8 +20,8 @@ use Rattle.sap_process.specs.Sorted.{by_binder}
 use Rattle.sap_terms.specs.TermTests.{is_over, are_over, has_arity}
 use Rattle.sap_translate.specs.Scoped.{Within, EachWithin, AllWithin, FactsWithin}
 use Rattle.sap_translate.specs.OpenLocks.{EachVar, EachVarOf, EachVarIn, FactVars}
-use Rattle.sap_translate.proofs.Parts.Facts.{same_name_true, same_name_self}
-use Rattle.sap_translate.proofs.Lists.Lookups.{member_left, member_right}
+use Rattle.sap_translate.proofs.Shared.Facts.{same_name_true, same_name_self}
+use Rattle.sap_translate.proofs.Shared.Lookups.{member_left, member_right}
 use Rattle.sap_translate.proofs.Terms.Substitution.{known-append, known_new, names-append, new_free, map_trees, member_known}
 
 -- the variable with the sort of its binder in the scope

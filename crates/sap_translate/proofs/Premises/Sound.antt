@@ -25,15 +25,15 @@ use Rattle.sap_process.specs.Sorted.{by_binder, with_sorts}
 use Rattle.sap_terms.specs.TermTests.{is_over}
 use Rattle.sap_translate.specs.relation.Names.{is_reserved_var, is_reserved_fact, has_items}
 use Rattle.sap_translate.specs.Scoped.{Within, IsFree, FactsWithin, AreUnreserved}
-use Rattle.sap_translate.specs.Places.{ScopedPlace, child, scoped_place_at, root}
+use Rattle.sap_templates.specs.Places.{ScopedPlace, child, scoped_place_at, root}
 use Rattle.sap_process.specs.Places.{place}
 use Rattle.sap_place.specs.StateFacts.{tag}
 use Rattle.sap_process.specs.Scopes.{lock_var, scope_behind}
 use Rattle.sap_translate.specs.OpenLocks.{IsUnusedIn, UnlocksAreOpen, closed}
 use Rattle.sap_translate.specs.relation.Labels.{label_names, LabelsApart, HasLabels, action_labelled, labelled, IsRelabelled}
 use Rattle.sap_translate.specs.Sound.{SoundAt, SoundPlaces, IsSound}
-use Rattle.sap_translate.proofs.Parts.Facts.{same_name_true}
-use Rattle.sap_translate.proofs.Lists.Lookups.{member_left, member_right, member_cases, in_left, in_right, only_member}
+use Rattle.sap_translate.proofs.Shared.Facts.{same_name_true}
+use Rattle.sap_translate.proofs.Shared.Lookups.{member_left, member_right, member_cases, in_left, in_right, only_member}
 use Rattle.sap_translate.proofs.Terms.Substitution.{known-append}
 use Rattle.sap_translate.proofs.Parts.Holders.{closed_other}
 use Rattle.sap_translate.proofs.Lists.FactLists.{map_joined}

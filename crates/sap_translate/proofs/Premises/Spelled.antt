@@ -27,10 +27,10 @@ use Rattle.sap_rule.specs.declared.rule.Rule.{Rule}
 use Rattle.sap_translate.specs.relation.Labels.{IsRelabelled, labelled}
 use Rattle.sap_translate.specs.Scoped.{AreUnreserved}
 use Rattle.sap_translate.specs.relation.Spelled.{TermsOver, FactsOver, IsActionOver, IsProcessOver, ActsOver, IsOutcomeOver, RulesOver}
-use Rattle.sap_translate.specs.Templates.{embedded_acts, first_of, second_of, action_rules, place_rules, rules_of}
+use Rattle.sap_templates.specs.Templates.{embedded_acts, first_of, second_of, action_rules, place_rules, rules_of}
 use Rattle.sap_process.specs.Scopes.{scope_behind}
 use Rattle.sap_translate.proofs.Terms.Clean.{AllClean, all_clean}
-use Rattle.sap_translate.proofs.Lists.Lookups.{member_right}
+use Rattle.sap_translate.proofs.Shared.Lookups.{member_right}
 use Rattle.sap_translate.proofs.Premises.Sorting.{over_sound, over_sorted}
 use Rattle.sap_translate.proofs.Premises.Sound.{none_in, users_of, users_sorted, clean_labelled, sorts_labelled}
 

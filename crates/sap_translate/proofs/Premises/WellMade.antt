@@ -24,17 +24,17 @@ use Rattle.sap_restrict.specs.ReservedFacts.{event_fact}
 use Rattle.sap_rule.specs.Variables.{rule_vars}
 use Rattle.sap_rule.specs.WellMade.{IsKnowledge, IsLeftFact, IsRightFact, IsActFact, IsWellMade}
 use Rattle.sap_rule.specs.declared.rule.Rule.{Rule}
-use Rattle.sap_translate.specs.ChannelFacts.{fresh_fact, msg_fact, ack_fact}
+use Rattle.sap_templates.specs.ChannelFacts.{fresh_fact, msg_fact, ack_fact}
 use Rattle.sap_translate.specs.Members.{Member}
-use Rattle.sap_translate.specs.Places.{ScopedPlace, scoped_place_at}
+use Rattle.sap_templates.specs.Places.{ScopedPlace, scoped_place_at}
 use Rattle.sap_process.specs.Places.{place}
 use Rattle.sap_translate.specs.Scoped.{AllWithin, AreUnreserved, EachWithin, FactsWithin, IsFree, Within}
 use Rattle.sap_translate.specs.Sound.{SoundAt, IsSoundAction}
-use Rattle.sap_translate.specs.Templates.{state, embedded_acts, first_of, second_of, init_rule, action_rules, own_rules, place_rules, rules_of}
+use Rattle.sap_templates.specs.Templates.{state, embedded_acts, first_of, second_of, init_rule, action_rules, own_rules, place_rules, rules_of}
 use Rattle.sap_translate.specs.relation.Spelled.{TermsOver, FactsOver, IsActionOver, IsProcessOver}
 use Rattle.sap_translate.proofs.Lists.FactLists.{within_left, within_right}
-use Rattle.sap_translate.proofs.Lists.Lookups.{member_cases, in_left, in_right, only_member, member_left, member_last}
-use Rattle.sap_translate.proofs.Parts.Facts.{not_reserved, same_name_self}
+use Rattle.sap_translate.proofs.Shared.Lookups.{member_cases, in_left, in_right, only_member, member_left, member_last}
+use Rattle.sap_translate.proofs.Shared.Facts.{not_reserved, same_name_self}
 use Rattle.sap_translate.proofs.Premises.OneSort.{OneSort, one_sort_more, one_sort_behind}
 use Rattle.sap_translate.proofs.Premises.Sound.{none_in}
 use Rattle.sap_translate.proofs.Premises.Spelled.{vars_over, sent_over}

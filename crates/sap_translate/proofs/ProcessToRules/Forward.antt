@@ -2,13 +2,13 @@
 use Rattle.sap_translate.proofs.Premises.LowerLaws.{Laws}
 use Rattle.sap_translate.specs.Members.{Member}
 use Rattle.sap_translate.specs.relation.Shown.{SeesAll}
-use Rattle.sap_translate.proofs.Lists.Lookups.{member_last, member_left, member_right, member_cases, in_left, in_right, only_member}
+use Rattle.sap_translate.proofs.Shared.Lookups.{member_last, member_left, member_right, member_cases, in_left, in_right, only_member}
 use Rattle.sap_translate.proofs.Related.Every.{every}
 use Rattle.sap_translate.proofs.Related.Starts.{starts}
 use Rattle.sap_translate.proofs.Terms.Derive.{contains, member}
 use Rattle.sap_translate.proofs.Traces.Visible.{admitted_by_count}
 use Rattle.sap_translate.specs.Sound.{IsSound}
-use Rattle.sap_translate.specs.Templates.{rules_of}
+use Rattle.sap_templates.specs.Templates.{rules_of}
 use Rattle.sap_translate.specs.relation.Answers.{AtRest}
 use Rattle.sap_translate.specs.relation.ProcessMoves.{drawn_by, process_move}
 use Rattle.sap_translate.specs.relation.Agents.{Agent}

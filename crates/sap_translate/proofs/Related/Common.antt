@@ -1,20 +1,19 @@
 -- What the laws of the cases share: rules are used, runs go on, and both sides rest again.
-use Rattle.sap_translate.proofs.Premises.LowerLaws.{Laws}
+use Rattle.sap_translate.proofs.Premises.LowerLaws.{Laws, nf}
 use Rattle.sap_translate.specs.Members.{Member}
 use Rattle.sap_translate.proofs.Terms.Choices.{filled_values, choice_good, settled_vars, values_append}
 use Rattle.sap_translate.proofs.Terms.Derive.{contains}
 use Rattle.sap_translate.proofs.Terms.Forms.{settled, equal_facts, forms_of_facts}
-use Rattle.sap_translate.proofs.Lists.Lookups.{map_get, get-set_other}
+use Rattle.sap_translate.proofs.Shared.Lookups.{map_get, get-set_other, get-append_left, get_last}
 use Rattle.sap_translate.proofs.Lists.Numbers.{apart_next}
-use Rattle.sap_translate.proofs.Lists.Totals.{total-append, total-set}
+use Rattle.sap_translate.proofs.Shared.Totals.{total-append, total-set}
 use Rattle.sap_translate.proofs.Terms.Substitution.{GroundEnv, after_pattern, after_facts, instance_append, with_choice_is, with_term_is}
 use Rattle.sap_translate.proofs.Lists.FactLists.{map_joined}
 use Rattle.sap_translate.proofs.Parts.Parts.{without_absent}
 use Rattle.sap_translate.proofs.Parts.Places.{own_in}
-use Rattle.sap_translate.proofs.Traces.Visible.{get-append_left, get_last}
-use Rattle.sap_translate.specs.Places.{scoped_place_at, root}
+use Rattle.sap_templates.specs.Places.{scoped_place_at, root}
 use Rattle.sap_translate.specs.Scoped.{IsFree}
-use Rattle.sap_translate.specs.Templates.{rules_of, own_rules}
+use Rattle.sap_templates.specs.Templates.{rules_of, own_rules}
 use Rattle.sap_translate.specs.relation.Answers.{AtRest, Answers, term_under, under, widened, without_facts}
 use Rattle.sap_translate.specs.relation.Envs.{Env, names, chosen, filled, values, GoodEnv, bind, just, join}
 use Rattle.sap_translate.specs.relation.Names.{vars}
@@ -45,7 +44,6 @@ use Rattle.sap_terms.specs.declared.var.Var.{Var}
 use Rattle.std.proofs.Common.{◌≡◌, ℕ, List, [], ◌∷◌, ◌++◌, Option, Some, None, refl, sym, ap, ◌∙◌, arith, slice_get, slice_set, subst, map, append-nil, append_assoc, length, false, ◌+◌}
 use Rattle.std.specs.Prelude.{if◌then◌else◌}
 use Rattle.std.specs.Option.{option_map}
-use Rattle.sap_translate.proofs.Premises.LowerLaws.{nf}
 
 -- a linear fact is taken
 pub one_linear : {facts rest : Pile} {k : ℕ} {ks : List ℕ} {f : Fact} {fs : List Fact} → slice_get facts k ≡ Some (Some f) → f.persistent ≡ false → Takes (slice_set facts k None) ks fs rest → Takes facts (k ∷ ks) (f ∷ fs) rest

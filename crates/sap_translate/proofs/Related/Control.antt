@@ -2,7 +2,7 @@
 use Rattle.sap_translate.proofs.Premises.LowerLaws.{Laws, one_normal_form, nf, chain, back}
 use Rattle.sap_restrict.specs.ReservedFacts.{event_fact, eq_fact, not_eq_fact}
 use Rattle.sap_translate.specs.Members.{Member}
-use Rattle.sap_translate.proofs.Lists.Lookups.{get-set_same}
+use Rattle.sap_translate.proofs.Shared.Lookups.{get-set_same, get_last}
 use Rattle.sap_translate.proofs.Lists.Numbers.{length-slice_set}
 use Rattle.sap_translate.proofs.Parts.Kept.{kept_nil, kept_par, kept_branch, kept_rep_start, kept_rep_copy, kept_out, kept_event}
 use Rattle.sap_translate.proofs.Terms.Choices.{choice_good, put_choice, put_fact_choice}
@@ -10,9 +10,8 @@ use Rattle.sap_translate.proofs.Terms.Forms.{settled, nf_fact, form_is}
 use Rattle.sap_translate.proofs.Traces.Demands.{other, demands_equal, demands_unequal}
 use Rattle.sap_translate.proofs.Traces.LockTraces.{no_lock_one}
 use Rattle.sap_translate.proofs.Traces.Store.{no_write_one}
-use Rattle.sap_translate.proofs.Traces.Visible.{get_last}
 use Rattle.sap_translate.specs.Sound.{SoundPlaces}
-use Rattle.sap_translate.specs.Templates.{first_of, second_of, rules_of, own_rules, nil_rule, parallel_rule, rep_start_rule, rep_copy_rule, out_rule, event_rule, then_rule, else_rule}
+use Rattle.sap_templates.specs.Templates.{first_of, second_of, rules_of, own_rules, nil_rule, parallel_rule, rep_start_rule, rep_copy_rule, out_rule, event_rule, then_rule, else_rule}
 use Rattle.sap_translate.specs.relation.Answered.{Ends, Splits, CopiesFirst, CopiesMore, Outputs, Agrees, Differs, Shows}
 use Rattle.sap_translate.specs.relation.Answers.{AtRest, StandsBefore, term_under, under, at_first, at_second, trades, gets}
 use Rattle.sap_translate.specs.relation.Envs.{Env, names, chosen, filled, values}

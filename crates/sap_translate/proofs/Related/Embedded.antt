@@ -6,7 +6,7 @@ use Rattle.sap_process.specs.Places.{place}
 use Rattle.sap_process.specs.Proc.{Proc, act}
 use Rattle.sap_process.specs.ProcessSteps.{ProcessStep}
 use Rattle.sap_rule.specs.declared.rule.Rule.{Rule}
-use Rattle.sap_terms.specs.Equations.{equations}
+use Rattle.sap_terms.specs.Equations.{equations, Equations}
 use Rattle.sap_terms.specs.Signature.{Sig}
 use Rattle.sap_terms.specs.Trace.{Trace}
 use Rattle.sap_terms.specs.declared.fact.Fact.{Fact}
@@ -22,7 +22,7 @@ use Rattle.sap_translate.proofs.Lists.FactLists.{within_left, within_right}
 use Rattle.sap_translate.proofs.Parts.Embed.{kept_embed}
 use Rattle.sap_translate.proofs.Parts.Users.{equal_users, form_users, put_users}
 use Rattle.sap_translate.specs.Scoped.{FactsWithin, AreUnreserved}
-use Rattle.sap_translate.specs.Templates.{first_of, rules_of, embedded_rule, embedded_acts}
+use Rattle.sap_templates.specs.Templates.{first_of, rules_of, embedded_rule, embedded_acts}
 use Rattle.sap_translate.specs.relation.Answered.{Embeds}
 use Rattle.sap_translate.specs.relation.Answers.{AtRest, under, at_first}
 use Rattle.sap_translate.specs.relation.Envs.{Env, names, filled, values, bind, join, GoodEnv}
@@ -38,7 +38,6 @@ use Rattle.sap_process.specs.Configuration.{Config, becomes}
 use Rattle.sap_process.specs.Sites.{var_names}
 use Rattle.sap_rule.specs.RuleSteps.{RuleState, RuleStep, leaves}
 use Rattle.sap_terms.specs.Choice.{Choice, instance}
-use Rattle.sap_terms.specs.Equations.{Equations}
 use Rattle.sap_terms.specs.Modulo.{instance_fact, instance_facts, IsEqualFact, IsFormOfFact, AreEqualFacts, AreFormsOfFacts}
 use Rattle.sap_terms.specs.Message.{IsMessageChoice}
 use Rattle.sap_terms.specs.Tree.{Tree}

@@ -2,9 +2,9 @@
 use Rattle.sap_translate.proofs.Premises.LowerLaws.{Laws, has_normal_form, nf}
 use Rattle.sap_translate.specs.Members.{Member}
 use Rattle.sap_translate.proofs.Lists.Bags.{take_same}
-use Rattle.sap_translate.proofs.Lists.Lookups.{Behind, behind, member_left, member_right, member_cases, in_left, in_right, only_member}
-use Rattle.sap_translate.proofs.Lists.Takings.{takes_total}
-use Rattle.sap_translate.proofs.Lists.Totals.{total-set}
+use Rattle.sap_translate.proofs.Shared.Lookups.{Behind, behind, member_left, member_right, member_cases, in_left, in_right, only_member}
+use Rattle.sap_translate.proofs.Shared.Takings.{takes_total}
+use Rattle.sap_translate.proofs.Shared.Totals.{total-set}
 use Rattle.sap_translate.proofs.Parts.Control.{fact_of}
 use Rattle.sap_translate.proofs.Parts.Kept.{state_no_out}
 use Rattle.sap_translate.proofs.Related.Common.{bound_term, bound_pattern, bound_facts}

@@ -5,11 +5,11 @@ use Rattle.sap_translate.specs.relation.Shown.{MeetsAll, MeetsSix}
 use Rattle.sap_translate.proofs.Terms.Choices.{settled_vars}
 use Rattle.sap_translate.proofs.Terms.Derive.{contains}
 use Rattle.sap_translate.proofs.Terms.Forms.{settled, equal_are_facts, forms_are_facts, IsTidy}
-use Rattle.sap_translate.proofs.Lists.Takings.{taken_each}
+use Rattle.sap_translate.proofs.Shared.Takings.{taken_each}
 use Rattle.sap_translate.proofs.Parts.Kept.{first_taken}
 use Rattle.sap_translate.proofs.Parts.Tidy.{tidy}
-use Rattle.sap_translate.proofs.Traces.Inputs.{free_quiet}
-use Rattle.sap_translate.specs.Templates.{rules_of}
+use Rattle.sap_translate.proofs.Shared.Inputs.{free_quiet}
+use Rattle.sap_templates.specs.Templates.{rules_of}
 use Rattle.sap_translate.specs.relation.Answers.{StandsBefore}
 use Rattle.sap_translate.specs.relation.Envs.{Env, names, values}
 use Rattle.sap_translate.specs.relation.Followed.{IsUsed}

@@ -15,7 +15,7 @@ use Rattle.sap_translate.proofs.Premises.LowerLaws.{Laws, nf, one_normal_form, n
 use Rattle.sap_translate.specs.relation.Shown.{MeetsAll}
 use Rattle.sap_translate.proofs.Terms.Choices.{settled_vars, put_same, put_fact_same}
 use Rattle.sap_translate.proofs.Terms.Forms.{settled, nf_fact, form_is}
-use Rattle.sap_translate.specs.Templates.{rules_of, first_of, second_of, init_rule, nil_rule, parallel_rule, rep_start_rule, rep_copy_rule, out_rule, event_rule, then_rule, else_rule}
+use Rattle.sap_templates.specs.Templates.{rules_of, first_of, second_of, init_rule, nil_rule, parallel_rule, rep_start_rule, rep_copy_rule, out_rule, event_rule, then_rule, else_rule}
 use Rattle.sap_translate.specs.relation.Answers.{term_under, under, at_first, at_second, goes_on}
 use Rattle.sap_translate.specs.relation.Envs.{Env, names, chosen, values, no_env}
 use Rattle.sap_translate.specs.relation.Follows.{Together, written}
@@ -39,7 +39,7 @@ use Rattle.sap_translate.proofs.Related.Follow.{follow, follow_still, follow_use
 use Rattle.sap_translate.proofs.RulesToProcess.Followed.{is_new, took_none}
 use Rattle.sap_translate.proofs.Terms.Derive.{contains, member}
 use Rattle.sap_translate.proofs.Traces.Demands.{other}
-use Rattle.sap_translate.proofs.Traces.Inputs.{has_last, free_know, event_frees_none}
+use Rattle.sap_translate.proofs.Shared.Inputs.{has_last, free_know, event_frees_none}
 use Rattle.sap_translate.proofs.Traces.LockTraces.{no_lock_one}
 use Rattle.sap_translate.proofs.Traces.Store.{no_write_one}
 use Rattle.sap_translate.specs.relation.Followed.{IsUsed, FollowsInit, FollowsNil, FollowsParallel, FollowsRepStart, FollowsRepCopy, FollowsOut, FollowsThen, FollowsElse, FollowsEvent, FollowsFresh, FollowsLearn, FollowsOwn, FollowsPublic, FollowsApply, FollowsGive, TakesBack}

@@ -14,7 +14,7 @@ use Rattle.sap_process.specs.Action as action
 use Rattle.sap_translate.proofs.Premises.LowerLaws.{Laws, nf, one_normal_form, nf-reached, nf-fresh, chain, back}
 use Rattle.sap_translate.specs.relation.Shown.{MeetsAll}
 use Rattle.sap_translate.proofs.Terms.Choices.{settled_vars, put_same, good_bind, longer_choice, pattern_matches}
-use Rattle.sap_translate.specs.Templates.{rules_of, first_of, in_rule, in_adv_rule, in_msg_rule, out_adv_rule, out_msg_rule, out_ack_rule}
+use Rattle.sap_templates.specs.Templates.{rules_of, first_of, in_rule, in_adv_rule, in_msg_rule, out_adv_rule, out_msg_rule, out_ack_rule}
 use Rattle.sap_translate.specs.relation.Answers.{term_under, under, widened, at_first}
 use Rattle.sap_translate.specs.relation.Envs.{Env, names, values, bind}
 use Rattle.sap_translate.specs.relation.Follows.{Together}
@@ -31,15 +31,15 @@ use Rattle.std.proofs.Common.{◌≡◌, ℕ, List, [], ◌∷◌, ◌++◌, Opt
 use Rattle.sap_restrict.specs.ReservedFacts.{input_fact}
 use Rattle.sap_restrict.specs.Standard.{IsAdmitted}
 use Rattle.sap_translate.proofs.Lists.FactLists.{map_joined}
-use Rattle.sap_translate.proofs.Lists.Lookups.{map_push}
+use Rattle.sap_translate.proofs.Shared.Lookups.{map_push}
 use Rattle.sap_translate.proofs.Parts.Kept.{first_taken, kept_in, kept_out_adv}
 use Rattle.sap_translate.proofs.Traces.Private.{kept_out_msg, kept_meet, kept_out_ack}
 use Rattle.sap_translate.proofs.Related.Common.{runs_as, place_rule, bound_pattern}
 use Rattle.sap_translate.proofs.Related.Follow.{follow_use, follow_use_still, left_is, demands_of, under_env, one_step, silent_waits, no_acts}
 use Rattle.sap_translate.proofs.Related.FollowControl.{met, args_of}
 use Rattle.sap_translate.proofs.Terms.Substitution.{new_first, new_free}
-use Rattle.sap_translate.proofs.Traces.Inputs.{served_free, input_frees_none, last_same, init_same}
-use Rattle.sap_translate.specs.ChannelFacts.{fresh_fact, msg_fact, ack_fact}
+use Rattle.sap_translate.proofs.Shared.Inputs.{served_free, input_frees_none, last_same, init_same}
+use Rattle.sap_templates.specs.ChannelFacts.{fresh_fact, msg_fact, ack_fact}
 use Rattle.sap_translate.specs.relation.Followed.{FollowsIn, FollowsInAdv, FollowsInMsg, FollowsOutAdv, FollowsOutMsg, FollowsOutAck}
 use Rattle.sap_process.specs.Scopes.{with_new}
 use Rattle.sap_process.specs.Configuration.{Config, becomes, sends_out}

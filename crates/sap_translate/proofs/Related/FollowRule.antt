@@ -13,7 +13,7 @@ use Rattle.sap_translate.proofs.Premises.LowerLaws.{Laws}
 use Rattle.sap_translate.specs.relation.Shown.{MeetsAll}
 use Rattle.sap_translate.proofs.Terms.Choices.{settled_vars, good_bind, longer_choice, facts_match}
 use Rattle.sap_translate.proofs.Terms.Forms.{settled, forms_are_facts}
-use Rattle.sap_translate.specs.Templates.{rules_of, first_of, embedded_rule, embedded_acts}
+use Rattle.sap_templates.specs.Templates.{rules_of, first_of, embedded_rule, embedded_acts}
 use Rattle.sap_translate.specs.relation.Answers.{StandsBefore, under, widened, at_first, goes_on}
 use Rattle.sap_translate.specs.relation.Envs.{Env, names, values, join, bind, GoodEnv}
 use Rattle.sap_translate.specs.relation.Follows.{Together}
@@ -37,7 +37,7 @@ use Rattle.sap_translate.proofs.Related.Follow.{follow_use, under_env, one_step,
 use Rattle.sap_translate.proofs.Related.FollowControl.{flush, flush_moves}
 use Rattle.sap_translate.proofs.RulesToProcess.Followed.{settled_said}
 use Rattle.sap_translate.proofs.Terms.Substitution.{new_first, new_free}
-use Rattle.sap_translate.proofs.Traces.Inputs.{event_frees_none}
+use Rattle.sap_translate.proofs.Shared.Inputs.{event_frees_none}
 use Rattle.sap_translate.specs.Scoped.{FactsWithin, AreUnreserved}
 use Rattle.sap_translate.specs.relation.Followed.{IsUsed, FollowsRule}
 use Rattle.sap_process.specs.Scopes.{with_new}

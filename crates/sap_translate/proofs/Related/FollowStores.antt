@@ -14,7 +14,7 @@ use Rattle.sap_translate.proofs.Premises.LowerLaws.{Laws, nf, has_normal_form, o
 use Rattle.sap_translate.specs.relation.Shown.{MeetsAll}
 use Rattle.sap_translate.proofs.Terms.Choices.{settled_vars, put_same, one_more, agree_of}
 use Rattle.sap_translate.proofs.Terms.Forms.{settled}
-use Rattle.sap_translate.specs.Templates.{rules_of, first_of, second_of, new_rule, insert_rule, delete_rule, found_rule, missing_rule, lock_rule, unlock_rule}
+use Rattle.sap_templates.specs.Templates.{rules_of, first_of, second_of, new_rule, insert_rule, delete_rule, found_rule, missing_rule, lock_rule, unlock_rule}
 use Rattle.sap_translate.specs.relation.Answers.{term_under, under, at_first, at_second, goes_on}
 use Rattle.sap_translate.specs.relation.Envs.{Env, names, chosen, values, just, join}
 use Rattle.sap_translate.specs.relation.Follows.{Together, Follows}
@@ -30,7 +30,7 @@ use Rattle.std.proofs.Common.{◌≡◌, ℕ, List, [], ◌∷◌, ◌++◌, Opt
 use Rattle.sap_process.specs.Proc as whole
 use Rattle.sap_restrict.specs.ReservedFacts.{insert_fact, delete_fact, is_in_fact, is_not_set_fact, lock_fact, unlock_fact}
 use Rattle.sap_restrict.specs.Standard.{IsAdmitted}
-use Rattle.sap_translate.proofs.Lists.Takings.{taken_each}
+use Rattle.sap_translate.proofs.Shared.Takings.{taken_each}
 use Rattle.sap_translate.proofs.Parts.Control.{LiveFact}
 use Rattle.sap_translate.proofs.Parts.Kept.{kept_branch, kept_store, kept_found, kept_new}
 use Rattle.sap_translate.proofs.Parts.KeptLocks.{kept_lock, kept_unlock}
@@ -43,7 +43,7 @@ use Rattle.sap_translate.proofs.Terms.Substitution.{with_term_is}
 use Rattle.sap_translate.proofs.Traces.Demands.{other}
 use Rattle.sap_translate.proofs.Traces.LockTraces.{no_lock_one, lock_now}
 use Rattle.sap_translate.proofs.Traces.Store.{no_write_one, store_insert, store_delete, store_quiet, found_now, missed_now, found_is, missed_is}
-use Rattle.sap_translate.specs.ChannelFacts.{fresh_fact}
+use Rattle.sap_templates.specs.ChannelFacts.{fresh_fact}
 use Rattle.sap_translate.specs.Scoped.{IsFree}
 use Rattle.sap_translate.specs.relation.Followed.{FollowsNew, FollowsInsert, FollowsDelete, FollowsFound, FollowsMissing, FollowsLock, FollowsUnlock}
 use Rattle.sap_process.specs.Scopes.{lock_var}

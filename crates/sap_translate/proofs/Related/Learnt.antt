@@ -4,9 +4,9 @@ use Rattle.sap_translate.specs.Members.{Member}
 use Rattle.sap_translate.proofs.Terms.Derive.{contains, member, all_contained, ends_in}
 use Rattle.sap_translate.proofs.Parts.Control.{counted_fact}
 use Rattle.sap_translate.proofs.Parts.Kept.{kept_public, kept_applies, kept_learn}
-use Rattle.sap_translate.proofs.Lists.Lookups.{member_last, member_left, get-set_other}
-use Rattle.sap_translate.proofs.Traces.Inputs.{has_where, old, new}
-use Rattle.sap_translate.specs.Templates.{rules_of}
+use Rattle.sap_translate.proofs.Shared.Lookups.{member_last, member_left, get-set_other}
+use Rattle.sap_translate.proofs.Shared.Inputs.{has_where, old, new}
+use Rattle.sap_templates.specs.Templates.{rules_of}
 use Rattle.sap_translate.specs.relation.Answered.{Deduces}
 use Rattle.sap_translate.specs.relation.Answers.{AtRest}
 use Rattle.sap_translate.specs.relation.Agents.{Agent}

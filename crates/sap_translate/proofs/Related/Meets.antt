@@ -1,6 +1,6 @@
 -- What answers a meeting on a channel: a tag, the message, its receipt and the acknowledgement.
 use Rattle.sap_translate.specs.Members.{Member}
-use Rattle.sap_translate.specs.Places.{scoped_place_at, root}
+use Rattle.sap_templates.specs.Places.{scoped_place_at, root, ScopedPlace}
 use Rattle.sap_translate.specs.Sound.{SoundPlaces}
 use Rattle.sap_translate.specs.relation.Names.{vars}
 use Rattle.sap_process.specs.Places.{place}
@@ -20,15 +20,14 @@ use Rattle.sap_translate.proofs.Terms.Derive.{contains}
 use Rattle.sap_translate.proofs.Terms.Forms.{fresh_message}
 use Rattle.sap_translate.proofs.Terms.Substitution.{new_first, new_free, within_more}
 use Rattle.sap_translate.proofs.Lists.FactLists.{map_joined}
-use Rattle.sap_translate.proofs.Lists.Lookups.{get-set_same, get-set_other, map_push, member_left}
+use Rattle.sap_translate.proofs.Shared.Lookups.{get-set_same, get-set_other, map_push, member_left, get-append_left, get_within}
 use Rattle.sap_translate.proofs.Lists.Numbers.{length-slice_set, get_at, set_twice, set_apart}
-use Rattle.sap_translate.proofs.Parts.Control.{state_name_same}
+use Rattle.sap_translate.proofs.Shared.Names.{state_name_same}
 use Rattle.sap_translate.proofs.Parts.Kept.{kept_fresh}
 use Rattle.sap_translate.proofs.Traces.Private.{kept_out_msg, kept_meet, kept_out_ack}
-use Rattle.sap_translate.proofs.Traces.Visible.{get-append_left, get_within}
-use Rattle.sap_translate.specs.ChannelFacts.{msg_fact, ack_fact, fresh_fact}
+use Rattle.sap_templates.specs.ChannelFacts.{msg_fact, ack_fact, fresh_fact}
 use Rattle.sap_translate.specs.Scoped.{Within}
-use Rattle.sap_translate.specs.Templates.{first_of, rules_of, out_msg_rule, in_msg_rule, out_ack_rule}
+use Rattle.sap_templates.specs.Templates.{first_of, rules_of, out_msg_rule, in_msg_rule, out_ack_rule}
 use Rattle.sap_translate.specs.relation.Answered.{Meets, under_way, come}
 use Rattle.sap_translate.specs.relation.Answers.{AtRest, term_under, under, at_first, goes_on, trades, without_facts}
 use Rattle.sap_translate.specs.relation.Envs.{Env, names, filled, values, bind, just, join, GoodEnv}
@@ -49,7 +48,6 @@ use Rattle.sap_terms.specs.Tree.{Tree, variable, fresh}
 use Rattle.sap_terms.specs.Variables.{tree_vars, new_vars}
 use Rattle.std.proofs.lemmas.List.{length-append}
 use Rattle.std.proofs.Common.{◌≡◌, ℕ, ◌+◌, ◌<◌, List, [], ◌∷◌, ◌++◌, Option, Some, None, refl, sym, ap, ◌∙◌, arith, false, slice_get, slice_set, subst, length, append_assoc, map}
-use Rattle.sap_translate.specs.Places.{ScopedPlace}
 use Rattle.sap_translate.proofs.RulesToProcess.Followed.{some_spot}
 use Rattle.sap_translate.proofs.Related.Common.{zero_set, one_linear, runs_as, place_rule, use_of, old_args, takes_newest, answers, bound_pattern}
 

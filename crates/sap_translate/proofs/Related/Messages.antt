@@ -6,7 +6,7 @@ use Rattle.sap_process.specs.Places.{place}
 use Rattle.sap_process.specs.Proc.{Proc, act}
 use Rattle.sap_process.specs.ProcessSteps.{ProcessStep}
 use Rattle.sap_rule.specs.declared.rule.Rule.{Rule}
-use Rattle.sap_terms.specs.Equations.{equations}
+use Rattle.sap_terms.specs.Equations.{equations, app2, pair_name}
 use Rattle.sap_terms.specs.Signature.{Sig}
 use Rattle.sap_terms.specs.Trace.{Trace, shown}
 use Rattle.sap_terms.specs.declared.fact.Fact.{Fact}
@@ -19,10 +19,10 @@ use Rattle.sap_translate.proofs.Terms.Derive.{member}
 use Rattle.sap_translate.proofs.Terms.Forms.{form_of_equal}
 use Rattle.sap_translate.proofs.Terms.Substitution.{new_first, new_free}
 use Rattle.sap_translate.proofs.Parts.Kept.{kept_know, kept_in, kept_out_adv}
-use Rattle.sap_translate.proofs.Traces.Inputs.{know_free}
+use Rattle.sap_translate.proofs.Shared.Inputs.{know_free}
 use Rattle.sap_translate.specs.OpenLocks.{UnlocksAreOpen}
-use Rattle.sap_translate.specs.Places.{child}
-use Rattle.sap_translate.specs.Templates.{first_of, own_rules, rule, out_adv_rule}
+use Rattle.sap_templates.specs.Places.{child}
+use Rattle.sap_templates.specs.Templates.{first_of, own_rules, rule, out_adv_rule}
 use Rattle.sap_translate.specs.relation.Answered.{OutputsOn, Inputs, InputsOn}
 use Rattle.sap_translate.specs.relation.Answers.{AtRest, Answers, StandsBefore, term_under, under, widened, at_first, goes_on, trades, gets}
 use Rattle.sap_translate.specs.relation.Envs.{Env, names, filled, values, bind, join, GoodEnv}
@@ -40,7 +40,6 @@ use Rattle.sap_rule.specs.RuleSteps.{RuleState, RuleStep}
 use Rattle.sap_terms.specs.AdversaryFacts.{k_fact, in_fact, out_fact}
 use Rattle.sap_terms.specs.Choice.{instance}
 use Rattle.sap_terms.specs.Equal.{IsTheoryEqual}
-use Rattle.sap_terms.specs.Equations.{app2, pair_name}
 use Rattle.sap_terms.specs.Tree.{Tree}
 use Rattle.sap_terms.specs.Variables.{tree_vars, new_vars}
 use Rattle.std.proofs.Common.{◌≡◌, ℕ, List, [], ◌∷◌, ◌++◌, Option, Some, None, refl, sym, ap, ◌∙◌, subst, length, append_assoc, map}

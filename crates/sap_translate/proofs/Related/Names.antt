@@ -17,10 +17,10 @@ use Rattle.sap_translate.proofs.Terms.Derive.{contains, member}
 use Rattle.sap_translate.proofs.Terms.Forms.{fresh_message}
 use Rattle.sap_translate.proofs.Terms.Substitution.{with_term_is}
 use Rattle.sap_translate.proofs.Parts.Kept.{kept_new, kept_know, kept_flush, kept_own, kept_fresh}
-use Rattle.sap_translate.proofs.Traces.Visible.{get_last}
-use Rattle.sap_translate.specs.ChannelFacts.{fresh_fact}
+use Rattle.sap_translate.proofs.Shared.Lookups.{get_last}
+use Rattle.sap_templates.specs.ChannelFacts.{fresh_fact}
 use Rattle.sap_translate.specs.Scoped.{IsFree}
-use Rattle.sap_translate.specs.Templates.{first_of, rules_of, new_rule}
+use Rattle.sap_templates.specs.Templates.{first_of, rules_of, new_rule}
 use Rattle.sap_translate.specs.relation.Answered.{MakesName, AdversaryMakes, Knows}
 use Rattle.sap_translate.specs.relation.Answers.{AtRest, Answers, under, at_first, goes_on, trades, gets, without_facts}
 use Rattle.sap_translate.specs.relation.Envs.{Env, names, chosen, filled, values, just, join, GoodEnv}

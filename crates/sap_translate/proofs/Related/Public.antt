@@ -3,13 +3,13 @@ use Rattle.sap_translate.proofs.Premises.LowerLaws.{Laws}
 use Rattle.sap_translate.proofs.Parts.Kept.{related_start}
 use Rattle.sap_translate.proofs.Parts.Tidy.{tidy}
 use Rattle.sap_translate.proofs.RulesToProcess.Back.{law}
-use Rattle.sap_translate.specs.Templates.{rules_of}
+use Rattle.sap_templates.specs.Templates.{rules_of}
 use Rattle.sap_translate.specs.relation.Followed.{RuleCase, WhereTogether, Begins, FollowsEvery}
 use Rattle.sap_translate.specs.relation.Follows.{Together}
 use Rattle.sap_translate.specs.relation.Shown.{MeetsAll}
 use Rattle.sap_process.specs.ProcessSteps.{ProcessRun}
 use Rattle.sap_restrict.specs.Standard.{IsAdmitted}
-use Rattle.sap_rule.specs.RuleSteps.{RuleStep, RuleRun}
+use Rattle.sap_rule.specs.RuleSteps.{RuleStep, RuleRun, RuleState}
 use Rattle.sap_terms.specs.Equations.{equations}
 use Rattle.sap_terms.specs.Tree.{Tree}
 use Rattle.sap_terms.specs.declared.fact.Fact.{Fact}
@@ -27,7 +27,6 @@ use Rattle.sap_locks.specs.Annotation.{IsAnnotation}
 use Rattle.sap_process.specs.Configuration.{Config}
 use Rattle.sap_process.specs.Proc.{Proc, node_count}
 use Rattle.sap_process.specs.Ready.{IsReady}
-use Rattle.sap_rule.specs.RuleSteps.{RuleState}
 use Rattle.sap_terms.specs.Signature.{Sig, HoldsBuiltins}
 use Rattle.sap_terms.specs.Trace.{Trace}
 use Rattle.std.proofs.Common.{◌<◌, ◌^◌, ◌++◌, [], ◌∷◌, List, ◌∙◌, Option, arith, append-nil}

@@ -5,7 +5,7 @@ use Rattle.sap_translate.proofs.Parts.Kept.{kept_init, related_start}
 use Rattle.sap_translate.proofs.Related.Common.{use_of, run_on, one_move}
 use Rattle.sap_translate.proofs.Terms.Choices.{choice_good, good_none}
 use Rattle.sap_translate.specs.OpenLocks.{UnlocksAreOpen}
-use Rattle.sap_translate.specs.Templates.{init_rule}
+use Rattle.sap_templates.specs.Templates.{init_rule}
 use Rattle.sap_translate.specs.relation.Answered.{Starts}
 use Rattle.sap_translate.specs.relation.Envs.{no_env, filled}
 use Rattle.sap_translate.specs.relation.Agents.{unborn}

@@ -13,12 +13,12 @@ use Rattle.sap_translate.proofs.Parts.KeptLocks.{kept_lock, kept_unlock}
 use Rattle.sap_translate.proofs.Traces.Demands.{other, demands_quiet, no_demand_one, demands_found, demands_missed}
 use Rattle.sap_translate.proofs.Traces.LockTraces.{NoLock, no_lock_one}
 use Rattle.sap_translate.proofs.Traces.Store.{no_write_one, store_insert, store_delete, store_quiet}
-use Rattle.sap_translate.specs.ChannelFacts.{fresh_fact}
+use Rattle.sap_templates.specs.ChannelFacts.{fresh_fact}
 use Rattle.sap_translate.specs.Scoped.{IsFree}
 use Rattle.sap_translate.specs.OpenLocks.{UnlocksAreOpen}
-use Rattle.sap_translate.specs.Places.{child}
+use Rattle.sap_templates.specs.Places.{child}
 use Rattle.sap_translate.specs.Sound.{SoundPlaces}
-use Rattle.sap_translate.specs.Templates.{first_of, second_of, rules_of, own_rules, insert_rule, delete_rule, found_rule, missing_rule, lock_rule, unlock_rule}
+use Rattle.sap_templates.specs.Templates.{first_of, second_of, rules_of, own_rules, insert_rule, delete_rule, found_rule, missing_rule, lock_rule, unlock_rule}
 use Rattle.sap_translate.specs.relation.Answered.{Inserts, Deletes, Finds, Misses, Locks, Unlocks}
 use Rattle.sap_translate.specs.relation.Answers.{AtRest, Answers, StandsBefore, term_under, under, at_first, at_second, goes_on, trades}
 use Rattle.sap_translate.specs.relation.Envs.{Env, names, chosen, filled, values, just, join, GoodEnv}

@@ -32,13 +32,13 @@ use Rattle.sap_restrict.specs.declared.which.Which.{Which}
 use Rattle.sap_restrict.specs.declared.which.Which.TheVariants.{Eq, In, InEv, Init, Lock, NotEq, NotIn}
 use Rattle.sap_translate.specs.Scoped.{AreUnreserved}
 use Rattle.sap_translate.specs.relation.Spelled.{IsActionOver, IsProcessOver}
-use Rattle.sap_translate.specs.Templates.{embedded_acts, first_of, second_of, own_rules, place_rules, rules_of}
+use Rattle.sap_templates.specs.Templates.{embedded_acts, first_of, second_of, own_rules, place_rules, rules_of}
 use Rattle.sap_process.specs.Scopes.{scope_behind}
 use Rattle.sap_translate.proofs.Terms.Derive.{member}
-use Rattle.sap_translate.proofs.Parts.Facts.{not_reserved}
+use Rattle.sap_translate.proofs.Shared.Facts.{not_reserved}
 use Rattle.sap_translate.proofs.Terms.Forms.{nf_fact, nf_facts, forms_are_facts}
-use Rattle.sap_translate.proofs.Traces.Inputs.{old, new, has_where}
-use Rattle.sap_translate.proofs.Lists.Lookups.{only_member}
+use Rattle.sap_translate.proofs.Shared.Inputs.{old, new, has_where}
+use Rattle.sap_translate.proofs.Shared.Lookups.{only_member}
 use Rattle.sap_translate.proofs.Premises.Sound.{none_in}
 
 -- booleans

@@ -11,7 +11,7 @@ use Rattle.sap_process.specs.Sorted.{with_sorts}
 use Rattle.sap_locks.specs.Annotation.{IsAnnotation}
 use Rattle.sap_translate.specs.Faithful.{ShowsAll, ShowsOnly}
 use Rattle.sap_translate.specs.Sound.{IsSound}
-use Rattle.sap_translate.specs.Templates.{rules_of}
+use Rattle.sap_templates.specs.Templates.{rules_of}
 use Rattle.sap_translate.specs.relation.Spelled.{IsProcessOver}
 use Rattle.sap_translate.proofs.RulesToProcess.Back.{shows_only}
 use Rattle.sap_translate.proofs.ProcessToRules.Forward.{shows_all}

@@ -10,7 +10,7 @@ use Rattle.sap_restrict.specs.Restrictions.{needed_restrictions}
 use Rattle.sap_restrict.specs.Standard.{IsAdmitted}
 use Rattle.sap_rule.specs.RuleSteps.{IsFullTrace}
 use Rattle.sap_translate.specs.Faithful.{AreRestrictionsTrue}
-use Rattle.sap_translate.specs.Templates.{rules_of}
+use Rattle.sap_templates.specs.Templates.{rules_of}
 use Rattle.sap_translate.specs.relation.Spelled.{IsProcessOver}
 use Rattle.sap_translate.proofs.Restricted.Needed.{needed_to, needed_from}
 use Rattle.sap_translate.proofs.Restricted.Seen.{ready_over}

@@ -3,8 +3,7 @@ use Rattle.std.proofs.Common.{◌≡◌, ℕ, zero, suc, List, [], ◌∷◌, So
 use Rattle.sap_formula.specs.Truth.{EachIn}
 use Rattle.sap_restrict.specs.Laws.{AdmittedLaw}
 use Rattle.sap_restrict.specs.Sentences.{InitOnce, EachEqual, EachUnequal, EachFound, EachMissed, EachLock, EachServed, MeetsDemands}
-use Rattle.sap_restrict.specs.Shown.{AreLinear}
-use Rattle.sap_restrict.specs.Shown.{HasFact as Has}
+use Rattle.sap_restrict.specs.Shown.{AreLinear, HasFact as Has}
 use Rattle.sap_restrict.specs.Standard.{IsAdmitted}
 use Rattle.sap_terms.specs.Equations.{Equations, equations}
 use Rattle.sap_terms.specs.Message.{IsMessage, IsMessageTrace}

@@ -6,9 +6,9 @@ use Rattle.sap_translate.specs.relation.Shown.{ShowsAt}
 use Rattle.sap_restrict.specs.Sentences.{InitOnce}
 use Rattle.sap_translate.proofs.Parts.Kept.{kept_init, kept_know, kept_public, kept_applies, kept_learn, kept_own, kept_fresh}
 use Rattle.sap_translate.proofs.Parts.Tidy.{Tidy}
-use Rattle.sap_translate.proofs.Lists.Totals.{total_found, Found}
+use Rattle.sap_translate.proofs.Shared.Totals.{total_found, Found}
 use Rattle.sap_translate.proofs.Traces.Visible.{first_init}
-use Rattle.sap_translate.specs.ChannelFacts.{fresh_fact}
+use Rattle.sap_templates.specs.ChannelFacts.{fresh_fact}
 use Rattle.sap_translate.specs.relation.Agents.{Agent, unborn, running, copying, is_unborn, awaiting, received}
 use Rattle.sap_place.specs.StateFacts.{state_fact}
 use Rattle.sap_translate.specs.Sound.{SoundPlaces}

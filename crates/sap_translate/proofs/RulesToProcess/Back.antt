@@ -9,18 +9,18 @@ use Rattle.sap_translate.proofs.Lists.FactLists.{map_joined}
 use Rattle.sap_translate.proofs.Terms.Derive.{contains, member}
 use Rattle.sap_translate.proofs.Terms.Forms.{settled, nf_fact, equal_are_facts, forms_are_facts, IsTidy}
 use Rattle.sap_translate.proofs.Parts.Kept.{related_start}
-use Rattle.sap_translate.proofs.Lists.Lookups.{only_member, map_push}
-use Rattle.sap_translate.proofs.Lists.Takings.{taken_each}
+use Rattle.sap_translate.proofs.Shared.Lookups.{only_member, map_push}
+use Rattle.sap_translate.proofs.Shared.Takings.{taken_each}
 use Rattle.sap_translate.proofs.Parts.Tidy.{Tidy, tidy}
 use Rattle.sap_translate.proofs.Traces.Visible.{admitted_before}
-use Rattle.sap_translate.specs.ChannelFacts.{fresh_fact, msg_fact, ack_fact}
+use Rattle.sap_templates.specs.ChannelFacts.{fresh_fact, msg_fact, ack_fact}
 use Rattle.sap_translate.specs.OpenLocks.{UnlocksAreOpen}
 use Rattle.sap_translate.specs.relation.Agents.{unborn}
 use Rattle.sap_place.specs.StateFacts.{state_fact, copies_fact, waits_fact, tag}
-use Rattle.sap_translate.specs.Places.{scoped_place_at, root}
+use Rattle.sap_templates.specs.Places.{scoped_place_at, root}
 use Rattle.sap_process.specs.Places.{place}
 use Rattle.sap_translate.specs.relation.Names.{vars}
-use Rattle.sap_translate.specs.Templates.{first_of, second_of, rules_of, own_rules, embedded_acts}
+use Rattle.sap_templates.specs.Templates.{first_of, second_of, rules_of, own_rules, embedded_acts}
 use Rattle.sap_process.specs.Scopes.{with_new, lock_var}
 use Rattle.sap_translate.specs.Sound.{IsSound, SoundPlaces}
 use Rattle.sap_process.specs.Configuration.{initial}

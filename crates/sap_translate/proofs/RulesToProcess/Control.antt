@@ -6,7 +6,7 @@ use Rattle.sap_translate.specs.relation.Shown.{MeetsSix}
 use Rattle.sap_translate.proofs.Terms.Choices.{put_same}
 use Rattle.sap_translate.proofs.Parts.Control.{copy_agent_of}
 use Rattle.sap_translate.proofs.Traces.Demands.{other}
-use Rattle.sap_translate.proofs.Traces.Inputs.{has_last}
+use Rattle.sap_translate.proofs.Shared.Inputs.{has_last}
 use Rattle.sap_translate.proofs.Parts.Kept.{kept_nil, kept_par, kept_branch, kept_rep_start, kept_rep_copy, kept_out}
 use Rattle.sap_translate.proofs.Traces.LockTraces.{no_lock_one}
 use Rattle.sap_translate.proofs.Traces.Store.{no_write_one}
@@ -15,9 +15,9 @@ use Rattle.sap_translate.specs.relation.Envs.{names, chosen, values}
 use Rattle.sap_translate.specs.Scoped.{Within}
 use Rattle.sap_translate.specs.relation.Agents.{running, copying}
 use Rattle.sap_place.specs.StateFacts.{state_fact, copies_fact}
-use Rattle.sap_translate.specs.Places.{scoped_place_at, root, ScopedPlace}
+use Rattle.sap_templates.specs.Places.{scoped_place_at, root, ScopedPlace}
 use Rattle.sap_process.specs.Places.{place}
-use Rattle.sap_translate.specs.Templates.{first_of, second_of}
+use Rattle.sap_templates.specs.Templates.{first_of, second_of}
 use Rattle.sap_translate.specs.Sound.{SoundPlaces}
 use Rattle.sap_process.specs.Configuration.{becomes, spawns, sends_out}
 use Rattle.sap_process.specs.Instance.{process_instance}

@@ -11,18 +11,18 @@ use Rattle.sap_translate.proofs.Terms.Forms.{settled, nf_fact, form_of_fact, fre
 use Rattle.sap_translate.proofs.Parts.Kept.{kept_new, kept_event}
 use Rattle.sap_translate.proofs.Terms.Steps.{step_makes_name, step_embeds}
 use Rattle.sap_translate.proofs.Terms.Substitution.{new_first, after_facts, new_free}
-use Rattle.sap_translate.proofs.Lists.Takings.{taken_each, takes_total}
+use Rattle.sap_translate.proofs.Shared.Takings.{taken_each, takes_total}
 use Rattle.sap_translate.proofs.Parts.Tidy.{Tidy}
 use Rattle.sap_translate.proofs.Parts.Users.{form_users, put_users}
 use Rattle.sap_translate.specs.relation.Envs.{Env, names, chosen, values, just, join, bind}
 use Rattle.sap_translate.specs.Scoped.{AllWithin, FactsWithin, IsFree, AreUnreserved}
-use Rattle.sap_translate.specs.ChannelFacts.{fresh_fact}
+use Rattle.sap_templates.specs.ChannelFacts.{fresh_fact}
 use Rattle.sap_translate.specs.relation.Agents.{running}
 use Rattle.sap_translate.specs.relation.Counts.{SamePile, count_user}
 use Rattle.sap_place.specs.StateFacts.{state_fact}
-use Rattle.sap_translate.specs.Places.{scoped_place_at, root}
+use Rattle.sap_templates.specs.Places.{scoped_place_at, root}
 use Rattle.sap_process.specs.Places.{place}
-use Rattle.sap_translate.specs.Templates.{first_of, embedded_acts}
+use Rattle.sap_templates.specs.Templates.{first_of, embedded_acts}
 use Rattle.sap_process.specs.Scopes.{with_new}
 use Rattle.sap_translate.specs.Sound.{SoundPlaces}
 use Rattle.sap_process.specs.Configuration.{becomes, makes}

@@ -4,12 +4,12 @@ use Rattle.sap_translate.specs.Members.{Member}
 use Rattle.sap_translate.proofs.Parts.Control.{agent_of, LiveFact, live_counts}
 use Rattle.sap_translate.proofs.Terms.Derive.{member}
 use Rattle.sap_translate.proofs.Traces.LockTraces.{held_not_free}
-use Rattle.sap_translate.specs.ChannelFacts.{fresh_fact}
+use Rattle.sap_templates.specs.ChannelFacts.{fresh_fact}
 use Rattle.sap_translate.specs.relation.Locks.{LockFree}
-use Rattle.sap_translate.proofs.Parts.Facts.{eq_self}
+use Rattle.sap_translate.proofs.Shared.Facts.{eq_self}
 use Rattle.sap_translate.proofs.Terms.Forms.{settled}
 use Rattle.sap_translate.proofs.Parts.Kept.{kept_flush, kept_unflush}
-use Rattle.sap_translate.proofs.Lists.Lookups.{only_member}
+use Rattle.sap_translate.proofs.Shared.Lookups.{only_member}
 use Rattle.sap_translate.proofs.Parts.Places.{home, Home}
 use Rattle.sap_translate.specs.relation.Envs.{Env, names, values}
 use Rattle.sap_translate.specs.relation.Totals.{total}
@@ -17,9 +17,9 @@ use Rattle.sap_translate.specs.relation.Agents.{Agent, running}
 use Rattle.sap_translate.specs.relation.Related.{Related, Free}
 use Rattle.sap_translate.specs.relation.Counts.{count_name}
 use Rattle.sap_place.specs.StateFacts.{state_fact}
-use Rattle.sap_translate.specs.Places.{scoped_place_at, root, ScopedPlace}
+use Rattle.sap_templates.specs.Places.{scoped_place_at, root, ScopedPlace}
 use Rattle.sap_process.specs.Places.{place}
-use Rattle.sap_translate.specs.Templates.{rules_of, init_rule, embedded_acts}
+use Rattle.sap_templates.specs.Templates.{rules_of, init_rule, embedded_acts}
 use Rattle.sap_process.specs.Configuration.{Config, initial, IsUnused}
 use Rattle.sap_process.specs.Proc.{Proc}
 use Rattle.sap_process.specs.ProcessSteps.{ProcessStep, ProcessRun}

@@ -5,24 +5,25 @@ use Rattle.sap_translate.specs.Members.{Member}
 use Rattle.sap_translate.specs.relation.Shown.{ShowsAt}
 use Rattle.sap_restrict.specs.Sentences.{EachServed}
 use Rattle.sap_translate.proofs.Terms.Choices.{good_bind, put_same, pattern_matches, longer_choice}
-use Rattle.sap_translate.proofs.Parts.Control.{LiveFact, msg_owner}
+use Rattle.sap_translate.proofs.Parts.Control.{LiveFact}
+use Rattle.sap_translate.proofs.Shared.Standing.{msg_owner}
 use Rattle.sap_translate.proofs.Terms.Forms.{fresh_fits}
-use Rattle.sap_translate.proofs.Traces.Inputs.{served_free}
+use Rattle.sap_translate.proofs.Shared.Inputs.{served_free}
 use Rattle.sap_translate.proofs.Parts.Kept.{kept_in, kept_out_adv}
 use Rattle.sap_translate.proofs.Parts.Owner.{owner, handshake}
 use Rattle.sap_translate.proofs.Traces.Private.{kept_out_msg, kept_meet, kept_out_ack}
 use Rattle.sap_translate.proofs.Terms.Steps.{step_inputs, step_inputs_on, step_meets}
 use Rattle.sap_translate.proofs.Terms.Substitution.{new_first, after_pattern, new_free}
-use Rattle.sap_translate.proofs.Lists.Takings.{taken_each}
+use Rattle.sap_translate.proofs.Shared.Takings.{taken_each}
 use Rattle.sap_translate.proofs.Parts.Tidy.{Tidy}
 use Rattle.sap_translate.specs.relation.Envs.{Env, names, chosen, values, join, bind}
 use Rattle.sap_translate.specs.Scoped.{Within}
-use Rattle.sap_translate.specs.ChannelFacts.{fresh_fact, msg_fact, ack_fact}
+use Rattle.sap_templates.specs.ChannelFacts.{fresh_fact, msg_fact, ack_fact}
 use Rattle.sap_translate.specs.relation.Agents.{running, awaiting, received}
 use Rattle.sap_place.specs.StateFacts.{state_fact, waits_fact, tag}
-use Rattle.sap_translate.specs.Places.{scoped_place_at, root}
+use Rattle.sap_templates.specs.Places.{scoped_place_at, root}
 use Rattle.sap_process.specs.Places.{place}
-use Rattle.sap_translate.specs.Templates.{first_of}
+use Rattle.sap_templates.specs.Templates.{first_of}
 use Rattle.sap_process.specs.Scopes.{with_new}
 use Rattle.sap_translate.specs.Sound.{SoundPlaces}
 use Rattle.sap_process.specs.Configuration.{Config, becomes, sends_out}

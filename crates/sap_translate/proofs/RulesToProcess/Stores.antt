@@ -15,12 +15,12 @@ use Rattle.sap_translate.proofs.Terms.Steps.{step_finds}
 use Rattle.sap_translate.proofs.Parts.Tidy.{Tidy}
 use Rattle.sap_translate.specs.relation.Envs.{Env, names, chosen, values, just, join}
 use Rattle.sap_translate.specs.Scoped.{Within, IsFree}
-use Rattle.sap_translate.specs.ChannelFacts.{fresh_fact}
+use Rattle.sap_templates.specs.ChannelFacts.{fresh_fact}
 use Rattle.sap_translate.specs.relation.Agents.{running}
 use Rattle.sap_place.specs.StateFacts.{state_fact}
-use Rattle.sap_translate.specs.Places.{scoped_place_at, root}
+use Rattle.sap_templates.specs.Places.{scoped_place_at, root}
 use Rattle.sap_process.specs.Places.{place}
-use Rattle.sap_translate.specs.Templates.{first_of, second_of}
+use Rattle.sap_templates.specs.Templates.{first_of, second_of}
 use Rattle.sap_process.specs.Scopes.{lock_var}
 use Rattle.sap_translate.specs.Sound.{SoundPlaces}
 use Rattle.sap_process.specs.Configuration.{becomes, stores, stored, holding}

@@ -20,9 +20,9 @@ use Rattle.sap_process.specs.Sites.{var_names}
 use Rattle.sap_translate.specs.relation.Names.{same_var, among, vars}
 use Rattle.sap_translate.specs.relation.Envs.{Env, no_env, names, values, join, bind, just, chosen, filled, some_term, GoodEnv}
 use Rattle.sap_translate.specs.Scoped.{IsFree, Within, AllWithin, FactsWithin}
-use Rattle.sap_translate.proofs.Parts.Facts.{same_var_self, same_var_true}
+use Rattle.sap_translate.proofs.Shared.Facts.{same_var_self, same_var_true}
 use Rattle.sap_translate.proofs.Terms.Forms.{public_normal, fresh_normal, chosen_fixed}
-use Rattle.sap_translate.proofs.Lists.Lookups.{member_left, member_right, member_cases, in_left, in_right, only_member}
+use Rattle.sap_translate.proofs.Shared.Lookups.{member_left, member_right, member_cases, in_left, in_right, only_member}
 use Rattle.sap_translate.proofs.Terms.Substitution.{AreFirst, GroundEnv, put_ground, put_then, put_agree, then, member_known}
 
 pub choose_vars : (σ : Choice) (v : List Var) → map (instance σ) (vars v) ≡ map σ v

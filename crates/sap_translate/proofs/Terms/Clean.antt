@@ -2,16 +2,15 @@
 use Rattle.sap_translate.specs.Members.{Member}
 use Rattle.std.proofs.Common.{◌≡◌, ℕ, suc, inl, subst, None, Option, nat_eq, length, List, [], ◌∷◌, ◌++◌, Some, refl, Bool, true, false, ◌||◌, slice_get}
 use Rattle.std.specs.List.{list_any}
-use Rattle.sap_terms.specs.Signature.{Sig}
+use Rattle.sap_terms.specs.Signature.{Sig, arity_of}
 use Rattle.sap_terms.specs.Message.{IsOver, AreOver}
-use Rattle.sap_terms.specs.Signature.{arity_of}
 use Rattle.sap_terms.specs.TermTests.{has_arity, is_over, are_over}
 use Rattle.sap_terms.specs.Tree.{Tree, variable, public, fresh, apply, Trees, none, more, list_of, trees_of}
 use Rattle.sap_terms.specs.Variables.{is_known}
 use Rattle.sap_terms.proofs.PlainLaws.Tests.{and_true}
 use Rattle.std.specs.Option.{option_map_or}
 use Rattle.sap_translate.specs.relation.Names.{is_reserved_var, is_reserved_fact, has_items, rebinds}
-use Rattle.sap_translate.proofs.Parts.Facts.{eq_self}
+use Rattle.sap_translate.proofs.Shared.Facts.{eq_self}
 use Rattle.sap_translate.proofs.Terms.Derive.{contains}
 use Rattle.sap_terms.specs.declared.var.Var.{Var}
 use Rattle.sap_process.specs.Flaws.{IsWellFormed, unbound}
@@ -21,7 +20,7 @@ use Rattle.sap_process.specs.Proc.{Proc, act}
 use Rattle.sap_process.specs.Sites.{var_names, Site, above_of, sites, sites_from, bound_by, message_var}
 use Rattle.sap_process.specs.Places.{place}
 use Rattle.sap_process.specs.declared.flaw.Flaw.TheVariants.{BadFunction, ReservedVar, ReservedFact, Unbound, Rebound}
-use Rattle.sap_translate.proofs.Lists.Lookups.{member_left, member_right}
+use Rattle.sap_translate.proofs.Shared.Lookups.{member_left, member_right}
 
 -- the head has none of the flaws that the rules turn on
 pub record IsClean (g : Sig) (v : List Var) (p : Proc) : Type 0 where

@@ -8,7 +8,7 @@ use Rattle.sap_terms.specs.Signature.{Sig}
 use Rattle.sap_terms.specs.Equations.{equations}
 use Rattle.sap_terms.specs.Tree.{Tree}
 use Rattle.std.proofs.lemmas.List.{reverse-append}
-use Rattle.sap_translate.proofs.Lists.Lookups.{member_left, member_last}
+use Rattle.sap_translate.proofs.Shared.Lookups.{member_left, member_last}
 use Rattle.std.proofs.Common.{reverse, sym, ◌++◌, ◌≡◌, ℕ, zero, suc, ◌<◌, List, [], ◌∷◌, refl, ◌∙◌, subst, arith, length}
 use Rattle.std.specs.Prelude.{Contains, All, slice_index_or}
 

@@ -1,7 +1,7 @@
 -- Normal forms of facts: what the steps' premises come to.
 use Rattle.sap_translate.proofs.Premises.LowerLaws.{Laws, nf-public, nf-fresh, nf-reached, nf-normal, nf-fixed, has_normal_form, one_normal_form, nf}
 use Rattle.sap_translate.specs.Members.{Member}
-use Rattle.sap_translate.proofs.Parts.Facts.{made}
+use Rattle.sap_translate.proofs.Shared.Facts.{made}
 use Rattle.sap_translate.specs.relation.Modulo.{AreForms, AreEqual, AreNormalTerms}
 use Rattle.sap_terms.specs.Choice.{fits_sort, Choice}
 use Rattle.sap_terms.specs.Equal.{IsTheoryEqual}

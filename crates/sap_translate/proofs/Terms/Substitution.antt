@@ -19,7 +19,7 @@ use Rattle.sap_process.specs.Flaws.{binder_of}
 use Rattle.sap_process.specs.ProcessSteps.{chosen as chosen_of, with_choice, with_term}
 use Rattle.sap_translate.specs.relation.Envs.{Env, join, bind, chosen, just}
 use Rattle.sap_translate.specs.Scoped.{Within, EachWithin}
-use Rattle.sap_translate.proofs.Parts.Facts.{same_name_true, same_name_self}
+use Rattle.sap_translate.proofs.Shared.Facts.{same_name_true, same_name_self}
 
 -- nothing stands for a term with variables
 abbrev pub GroundEnv : Env → Type 0

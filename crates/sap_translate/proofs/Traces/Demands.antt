@@ -3,10 +3,10 @@ use Rattle.sap_restrict.specs.ReservedFacts.{input_fact, eq_fact, not_eq_fact, i
 use Rattle.sap_translate.specs.Members.{Member}
 use Rattle.sap_restrict.specs.Sentences.{EachEqual, EachUnequal}
 use Rattle.sap_translate.specs.relation.Shown.{ShowsAt, MeetsSix}
-use Rattle.sap_translate.proofs.Parts.Facts.{names_apart, both_true, same_name_true}
-use Rattle.sap_translate.proofs.Traces.Inputs.{has_more, has_where, old, new, served_quiet, served_before, free_served}
+use Rattle.sap_translate.proofs.Shared.Facts.{names_apart, both_true, same_name_true}
+use Rattle.sap_translate.proofs.Shared.Inputs.{has_more, has_where, old, new, served_quiet, served_before, free_served}
 use Rattle.sap_translate.proofs.Traces.LockTraces.{lock_more, lock_before, lock_ok, is_lock}
-use Rattle.sap_translate.proofs.Lists.Lookups.{only_member}
+use Rattle.sap_translate.proofs.Shared.Lookups.{only_member}
 use Rattle.sap_translate.proofs.Traces.Store.{found_quiet, missed_quiet, found_before, missed_before, found_ok, missed_ok, is_write}
 use Rattle.sap_translate.specs.relation.Names.{name_among}
 use Rattle.sap_translate.specs.relation.Locks.{LockFree}

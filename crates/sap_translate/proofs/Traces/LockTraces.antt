@@ -3,8 +3,8 @@ use Rattle.sap_restrict.specs.ReservedFacts.{lock_fact, unlock_fact}
 use Rattle.sap_translate.specs.Members.{Member}
 use Rattle.sap_translate.specs.relation.Shown.{ShowsAt}
 use Rattle.sap_restrict.specs.Sentences.{EachLock}
-use Rattle.sap_translate.proofs.Traces.Inputs.{has_more, has_last, has_within, has_where, Where, old, new}
-use Rattle.sap_translate.proofs.Lists.Lookups.{only_member}
+use Rattle.sap_translate.proofs.Shared.Inputs.{has_more, has_last, has_within, has_where, Where, old, new}
+use Rattle.sap_translate.proofs.Shared.Lookups.{only_member}
 use Rattle.sap_translate.specs.relation.Names.{name_among}
 use Rattle.sap_translate.specs.relation.Locks.{LockFree, OnlyHolder, StillHeld}
 use Rattle.sap_terms.specs.Trace.{Trace}

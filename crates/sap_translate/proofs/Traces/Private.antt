@@ -1,25 +1,25 @@
 -- The relation is kept by the rules of private channels.
 use Rattle.sap_translate.specs.Members.{Member}
-use Rattle.sap_translate.proofs.Parts.Facts.{names_apart}
+use Rattle.sap_translate.proofs.Shared.Facts.{names_apart}
 use Rattle.sap_translate.proofs.Parts.Holders.{locks_set, locks_quiet, longer}
 use Rattle.sap_translate.proofs.Parts.Kept.{placed_set, same_grows, cond_cond, state_no_out, threads_grow, threads_back}
 use Rattle.sap_translate.proofs.Traces.LockTraces.{no_lock_none}
-use Rattle.sap_translate.proofs.Lists.Lookups.{map-set, map-set_same, get-set_other, only_member}
+use Rattle.sap_translate.proofs.Shared.Lookups.{map-set, map-set_same, get-set_other, only_member}
 use Rattle.sap_translate.proofs.Parts.Parts.{knowledge_kept, names_kept, quiet_none, trace_rules, trace_silent, spot_below}
 use Rattle.sap_translate.proofs.Terms.Choices.{good-append}
 use Rattle.sap_translate.proofs.Terms.Substitution.{new_free as free_of}
-use Rattle.sap_translate.proofs.Lists.Takings.{takes_total}
-use Rattle.sap_translate.proofs.Lists.Totals.{total-set, total-append}
+use Rattle.sap_translate.proofs.Shared.Takings.{takes_total}
+use Rattle.sap_translate.proofs.Shared.Totals.{total-set, total-append}
 use Rattle.sap_translate.specs.relation.Envs.{Env, names, chosen, GoodEnv, values, join}
 use Rattle.sap_translate.specs.Scoped.{IsFree}
-use Rattle.sap_translate.specs.ChannelFacts.{fresh_fact, msg_fact, ack_fact}
+use Rattle.sap_templates.specs.ChannelFacts.{fresh_fact, msg_fact, ack_fact}
 use Rattle.sap_translate.specs.relation.Agents.{Agent, running, awaiting, received, process_of, IsAt, is_unborn}
 use Rattle.sap_translate.specs.relation.Counts.{count_live, count_owed, count_tag, has_init, count_user}
 use Rattle.sap_translate.specs.relation.Related.{Related}
 use Rattle.sap_place.specs.StateFacts.{state_fact, waits_fact}
-use Rattle.sap_translate.specs.Places.{scoped_place_at, root}
+use Rattle.sap_templates.specs.Places.{scoped_place_at, root}
 use Rattle.sap_process.specs.Places.{place}
-use Rattle.sap_translate.specs.Templates.{first_of}
+use Rattle.sap_templates.specs.Templates.{first_of}
 use Rattle.sap_process.specs.Scopes.{with_new}
 use Rattle.sap_process.specs.Configuration.{Config, becomes}
 use Rattle.sap_process.specs.Instance.{process_instance}

@@ -3,9 +3,9 @@ use Rattle.sap_restrict.specs.ReservedFacts.{insert_fact, delete_fact, is_in_fac
 use Rattle.sap_translate.specs.Members.{Member}
 use Rattle.sap_translate.specs.relation.Shown.{ShowsAt}
 use Rattle.sap_restrict.specs.Sentences.{IsFound, EachFound, EachMissed}
-use Rattle.sap_translate.proofs.Parts.Facts.{names_apart}
-use Rattle.sap_translate.proofs.Traces.Inputs.{has_more, has_last, has_within, has_where, Where, old, new}
-use Rattle.sap_translate.proofs.Lists.Lookups.{only_member}
+use Rattle.sap_translate.proofs.Shared.Facts.{names_apart}
+use Rattle.sap_translate.proofs.Shared.Inputs.{has_more, has_last, has_within, has_where, Where, old, new}
+use Rattle.sap_translate.proofs.Shared.Lookups.{only_member}
 use Rattle.sap_translate.specs.relation.Names.{name_among}
 use Rattle.sap_translate.specs.relation.Related.{Stored, NotSet, StorePart}
 use Rattle.sap_process.specs.Configuration.{stored}

@@ -4,8 +4,9 @@ use Rattle.sap_restrict.specs.ReservedFacts.{init_fact, event_fact}
 use Rattle.sap_translate.specs.Members.{Member}
 use Rattle.sap_restrict.specs.Sentences.{InitOnce}
 use Rattle.sap_formula.specs.Hide.{hide, is_hidden, visible}
-use Rattle.sap_translate.proofs.Parts.Facts.{same_fact_true, not_reserved}
-use Rattle.sap_translate.proofs.Lists.Totals.{total_found}
+use Rattle.sap_translate.proofs.Shared.Lookups.{get-append_left, get_last, get_within}
+use Rattle.sap_translate.proofs.Shared.Facts.{same_fact_true, not_reserved}
+use Rattle.sap_translate.proofs.Shared.Totals.{total_found}
 use Rattle.sap_translate.specs.relation.Names.{same_fact}
 use Rattle.sap_translate.specs.relation.Totals.{total}
 use Rattle.sap_translate.specs.relation.Counts.{has_init}
@@ -35,20 +36,6 @@ pub event_no_init : (f : Fact) → is_reserved f.name ≡ false → has_init (ev
 event_no_init f e = rw (not_init f e) refl
 
 -- look-ups in longer lists
-pub get-append_left : {A : Type 0} (xs ys : List A) (i : ℕ) (x : A) → slice_get xs i ≡ Some x → slice_get (xs ++ ys) i ≡ Some x
-get-append_left [] ys i x e = cc
-get-append_left (y ∷ xs) ys zero x e = e
-get-append_left (y ∷ xs) ys (suc i) x e = get-append_left xs ys i x e
-
-pub get_last : {A : Type 0} (xs : List A) (x : A) → slice_get (xs ++ x ∷ []) (length xs) ≡ Some x
-get_last [] x = refl
-get_last (y ∷ xs) x = get_last xs x
-
-pub get_within : {A : Type 0} (xs : List A) (i : ℕ) (x : A) → slice_get xs i ≡ Some x → i < length xs
-get_within [] i x e = cc
-get_within (y ∷ xs) zero x e = omega arith
-get_within (y ∷ xs) (suc i) x e = let h = get_within xs i x e in omega arith
-
 pub admitted_before : (full : Trace) (place : List Fact) → InitOnce (ShowsAt (full ++ place ∷ [])) → InitOnce (ShowsAt full)
 admitted_before full place h i j a b =
     h i j (a.0, get-append_left full (place ∷ []) i a.0 a.1, a.2) (b.0, get-append_left full (place ∷ []) j b.0 b.1, b.2)

@@ -1,8 +1,8 @@
 -- Where the threads of a process stand in it, and what stands for them on both sides.
 use Rattle.sap_translate.specs.relation.Envs.{Env, no_env, names, chosen, values, GoodEnv}
-use Rattle.sap_translate.specs.ChannelFacts.{msg_fact, ack_fact}
+use Rattle.sap_templates.specs.ChannelFacts.{msg_fact, ack_fact}
 use Rattle.sap_place.specs.StateFacts.{state_fact, copies_fact, waits_fact}
-use Rattle.sap_translate.specs.Places.{scoped_place_at, root}
+use Rattle.sap_templates.specs.Places.{scoped_place_at, root}
 use Rattle.sap_process.specs.Places.{place}
 use Rattle.sap_process.specs.Configuration.{Config}
 use Rattle.sap_process.specs.Instance.{process_instance}

@@ -30,8 +30,8 @@ use Rattle.sap_restrict.specs.ReservedFacts.{init_fact, event_fact, input_fact, 
 use Rattle.sap_restrict.specs.Standard.{IsAdmitted}
 use Rattle.sap_rule.specs.RuleSteps.{RuleState, empty_state, leaves, gains}
 use Rattle.sap_rule.specs.RuleSteps as state
-use Rattle.sap_translate.specs.ChannelFacts.{msg_fact, ack_fact}
-use Rattle.sap_translate.specs.Templates.{second_of, first_of, nil_rule, parallel_rule, rep_start_rule, rep_copy_rule, new_rule, out_rule, out_adv_rule, out_msg_rule, out_ack_rule, in_rule, in_adv_rule, in_msg_rule, event_rule, insert_rule, delete_rule, lock_rule, unlock_rule, embedded_rule, embedded_acts, then_rule, else_rule, found_rule, missing_rule}
+use Rattle.sap_templates.specs.ChannelFacts.{msg_fact, ack_fact}
+use Rattle.sap_templates.specs.Templates.{second_of, first_of, nil_rule, parallel_rule, rep_start_rule, rep_copy_rule, new_rule, out_rule, out_adv_rule, out_msg_rule, out_ack_rule, in_rule, in_adv_rule, in_msg_rule, event_rule, insert_rule, delete_rule, lock_rule, unlock_rule, embedded_rule, embedded_acts, then_rule, else_rule, found_rule, missing_rule}
 use Rattle.sap_translate.specs.relation.Answers.{AtRest, StandsBefore, Copies, Answers, term_under, under, widened, at_first, at_second, goes_on, goes_aside, without_facts, trades, gets, Learnt, IsAnswered}
 use Rattle.sap_translate.specs.relation.Envs.{Env, no_env, names, chosen, values, filled, just, join}
 use Rattle.sap_translate.specs.relation.ProcessMoves as process

@@ -16,7 +16,7 @@ use Rattle.sap_process.specs.ProcessSteps.{ProcessRun}
 use Rattle.sap_process.specs.Sites.{var_names}
 use Rattle.sap_place.specs.StateFacts.{state_fact, copies_fact}
 use Rattle.sap_rule.specs.RuleSteps.{RuleState, RuleRun, leaves}
-use Rattle.sap_translate.specs.Templates.{rules_of, first_of, second_of}
+use Rattle.sap_templates.specs.Templates.{rules_of, first_of, second_of}
 use Rattle.sap_translate.specs.relation.Envs.{Env, names, chosen, values, bind, join}
 use Rattle.sap_translate.specs.relation.ProcessMoves.{ProcessMove, IsProcessMove}
 use Rattle.sap_translate.specs.relation.Agents.{Agent, running, copying, is_semi, is_unborn}

@@ -26,8 +26,8 @@ use Rattle.sap_restrict.specs.Standard.{IsAdmitted}
 use Rattle.sap_rule.specs.RuleSteps.{RuleState, RuleStep, IsUse, empty_state, leaves, gains}
 use Rattle.sap_rule.specs.RuleSteps as state
 use Rattle.sap_rule.specs.declared.rule.Rule.{Rule}
-use Rattle.sap_translate.specs.ChannelFacts.{msg_fact}
-use Rattle.sap_translate.specs.Templates.{rules_of, init_rule, first_of, second_of, nil_rule, parallel_rule, rep_start_rule, rep_copy_rule, new_rule, out_rule, out_adv_rule, out_msg_rule, out_ack_rule, in_rule, in_adv_rule, in_msg_rule, event_rule, insert_rule, delete_rule, lock_rule, unlock_rule, embedded_rule, then_rule, else_rule, found_rule, missing_rule}
+use Rattle.sap_templates.specs.ChannelFacts.{msg_fact}
+use Rattle.sap_templates.specs.Templates.{rules_of, init_rule, first_of, second_of, nil_rule, parallel_rule, rep_start_rule, rep_copy_rule, new_rule, out_rule, out_adv_rule, out_msg_rule, out_ack_rule, in_rule, in_adv_rule, in_msg_rule, event_rule, insert_rule, delete_rule, lock_rule, unlock_rule, embedded_rule, then_rule, else_rule, found_rule, missing_rule}
 use Rattle.sap_translate.specs.relation.Answers.{StandsBefore, Copies, term_under, under, widened, goes_on, goes_aside, gets}
 use Rattle.sap_translate.specs.relation.Envs.{Env, no_env, names, chosen, values, just, join}
 use Rattle.sap_translate.specs.relation.Follows.{Together, Follows, written}

@@ -8,7 +8,7 @@ use Rattle.sap_process.specs.Configuration.{Config, initial}
 use Rattle.sap_process.specs.Proc.{Proc}
 use Rattle.sap_process.specs.ProcessSteps.{ProcessRun}
 use Rattle.sap_rule.specs.RuleSteps.{RuleState, RuleRun}
-use Rattle.sap_translate.specs.Templates.{rules_of}
+use Rattle.sap_templates.specs.Templates.{rules_of}
 use Rattle.sap_translate.specs.relation.ProcessMoves.{ProcessMove, ProcessMoves, knows}
 use Rattle.sap_translate.specs.relation.Agents.{Agent}
 use Rattle.sap_translate.specs.relation.Related.{Related, Free}

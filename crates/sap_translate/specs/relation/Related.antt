@@ -5,7 +5,7 @@ use Rattle.sap_translate.specs.relation.Shown.{ShowsAt, MeetsSix}
 use Rattle.sap_formula.specs.Hide.{hide}
 use Rattle.sap_translate.specs.relation.Envs.{Env, names, chosen}
 use Rattle.sap_translate.specs.Scoped.{Within}
-use Rattle.sap_translate.specs.ChannelFacts.{fresh_fact}
+use Rattle.sap_templates.specs.ChannelFacts.{fresh_fact}
 use Rattle.sap_translate.specs.relation.Totals.{total}
 use Rattle.sap_translate.specs.OpenLocks.{UnlocksAreOpen}
 use Rattle.sap_translate.specs.relation.Locks.{Holder, LockPart}

@@ -5,7 +5,7 @@ use Rattle.sap_read.specs.Files.{told_by}
 use Rattle.sap_restrict.specs.View.{machine}
 use Rattle.sap_back.proofs.Cuts.{item_at, all_taken}
 use Rattle.sap_back.specs.Followed.{pending_lines}
-use Rattle.sap_back.specs.Tables.{Tables}
+use Rattle.sap_process_lines.specs.Tables.{ProcessTables}
 use Rattle.sap_back.specs.code.Replayed.{IsStopped, ShowOneReserved}
 use Rattle.sap_back.specs.code.Taken.{IsConvertedLine}
 use Rattle.sap_back.specs.declared.replay.Replay.{Replay}
@@ -61,7 +61,7 @@ loop-at-preserved c =
     let followed = c.lines_are_followed.ensures.lines g c.requires.process q c.requires.builtins c.requires.ready (c.files_are_replayed.ensures.small (told_by c.args.f.now) c.requires) c.requires.annotation in
     let t = c.convert.new.replay in
     let replayed = subst (λ (x : Replay). IsConvertedLine x.state t.state (machine x.guard) (machine t.guard) c.deref_mut-in-loop-at.result.now c.convert.new.desk c.line-item.result c.loop-at.lines c.convert.new.lines) c.deref_mut.ensures.value c.in_ok-convert.ensures.ok in
-    let taken = subst (λ (d : Tables). IsConvertedLine c.loop-at.replay.value.state t.state (machine c.loop-at.replay.value.guard) (machine t.guard) d c.convert.new.desk c.line-item.result c.loop-at.lines c.convert.new.lines) c.deref_mut-in-loop-at.ensures.value replayed in
+    let taken = subst (λ (d : ProcessTables). IsConvertedLine c.loop-at.replay.value.state t.state (machine c.loop-at.replay.value.guard) (machine t.guard) d c.convert.new.desk c.line-item.result c.loop-at.lines c.convert.new.lines) c.deref_mut-in-loop-at.ensures.value replayed in
     looped_converting g q c.args.run.now c.loop-at.at c.line-item.result there followed c.loop-at.replay.value.state c.convert.new.replay.state (machine c.loop-at.replay.value.guard) (machine c.convert.new.replay.guard) c.loop-at.desk.value c.convert.new.desk c.loop-at.lines c.convert.new.lines c.loop-at.invariant taken
 
 pub returns-clause-ok : goal.returns-clause-ok
@@ -71,5 +71,5 @@ returns-clause-ok c =
     let all = all_taken c.args.run.now c.as_slice-line-items.result.now c.loop-at.at c.as_slice-line-items.ensures (omega arith) (omega arith) in
     let ends = c.lines_are_followed.ensures.ends g c.requires.process q c.requires.builtins c.requires.ready (c.files_are_replayed.ensures.small (told_by c.args.f.now) c.requires) c.requires.annotation in
     let w = subst (λ b. IsConverting g q c.loop-at.replay.value.state (machine c.loop-at.replay.value.guard) c.loop-at.desk.value b c.loop-at.lines) all c.loop-at.invariant in
-    let last = subst (λ (d : Tables). c.finish.new.lines ≡ c.loop-at.lines ++ pending_lines d.pending) c.deref.ensures c.in_ok-finish.ensures in
+    let last = subst (λ (d : ProcessTables). c.finish.new.lines ≡ c.loop-at.lines ++ pending_lines d.pending) c.deref.ensures c.in_ok-finish.ensures in
     converted g q ends c.loop-at.replay.value.state (machine c.loop-at.replay.value.guard) c.loop-at.desk.value c.args.run.now c.loop-at.lines c.finish.new.lines w last

@@ -1,7 +1,7 @@
 use Rattle.std.proofs.Common.{[], take}
 use Rattle.sap_terms.specs.Signature.{Sig}
 use Rattle.sap_process.specs.Proc.{Proc}
-use Rattle.sap_forward.specs.Least.{names_drawn}
+use Rattle.sap_rule_lines.specs.Least.{names_drawn}
 use Rattle.sap_forward.specs.code.Begun.{GoesOn, IsBegun}
 use Rattle.sap_forward.proofs.conversion.take_each.Given as goal
 

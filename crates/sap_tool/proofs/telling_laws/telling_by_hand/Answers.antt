@@ -1,6 +1,6 @@
 use Rattle.std.proofs.Common.{◌≡◌, ℕ, codes, List, [], ◌∷◌, ◌++◌, length, None, refl, sym, ap, subst, ◌∙◌}
 use Rattle.std.specs.Fmt.{digits}
-use Rattle.sap_back.specs.Converted.{IsConverted}
+use Rattle.sap_back.specs.Converted.{IsConvertedToProcess}
 use Rattle.sap_formula.specs.Form.{LemmaForm, RestrictionForm}
 use Rattle.sap_lines.specs.Lines as lines
 use Rattle.sap_process.specs.Configuration.{becomes, initial}
@@ -77,7 +77,7 @@ never_bare (x ∷ told) verdicts e = cc
 pub returns-clause-not_bare : goal.returns-clause-not_bare
 returns-clause-not_bare c = λ f r w. never_bare w.written.told w.written.verdicts w.written.layout
 
-by_conversion : (f : FileContent) (rule_lines : List RStep) (lines : List PStep) → AreLinesOf f (run.Rules rule_lines) lines → IsConverted f.signature f.process rule_lines lines
+by_conversion : (f : FileContent) (rule_lines : List RStep) (lines : List PStep) → AreLinesOf f (run.Rules rule_lines) lines → IsConvertedToProcess f.signature f.process rule_lines lines
 by_conversion f rule_lines _ (converted lines c) = c
 
 pub returns-clause-converted : goal.returns-clause-converted

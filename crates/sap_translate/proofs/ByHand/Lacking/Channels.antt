@@ -13,12 +13,12 @@ use Rattle.sap_process.specs.Proc.{Proc, act}
 use Rattle.sap_process.specs.ProcessSteps.{ProcessStep, IsProcessTrace, with_term, with_choice}
 use Rattle.sap_translate.specs.Examples.{g_fact, first_fact, second_fact, two_senders}
 use Rattle.sap_translate.specs.Faithful.{IsVisibleTrace}
-use Rattle.sap_translate.specs.Templates.{rules_of}
+use Rattle.sap_templates.specs.Templates.{rules_of}
 use Rattle.sap_translate.proofs.Premises.LowerLaws.{Laws}
 use Rattle.sap_translate.proofs.ByHand.Parts.{rules_show_only}
 use Rattle.sap_translate.proofs.ByHand.Channels.{senders_sound, senders_over}
 use Rattle.sap_translate.proofs.ByHand.Moves.{Moves, past_first, head_name, apart, unlike, not_the_one, is_the_one, AtMostOne, OneAt, stays_other, stays_one, comes_other, comes_one, none_left, only_item, no_item}
-use Rattle.sap_translate.proofs.Lists.Lookups.{Every, every-set, every_push}
+use Rattle.sap_translate.proofs.Shared.Lookups.{Every, every-set, every_push}
 
 -- no receiver, and nothing but the first event before a sender
 abbrev Stuck : Proc → Type 0

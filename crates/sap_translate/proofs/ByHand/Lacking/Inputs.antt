@@ -14,12 +14,12 @@ use Rattle.sap_process.specs.Proc.{Proc, act}
 use Rattle.sap_process.specs.ProcessSteps.{ProcessStep, IsProcessTrace, with_choice}
 use Rattle.sap_translate.specs.Examples.{a_fact, b_fact, two_inputs}
 use Rattle.sap_translate.specs.Faithful.{IsVisibleTrace}
-use Rattle.sap_translate.specs.Templates.{rules_of}
+use Rattle.sap_templates.specs.Templates.{rules_of}
 use Rattle.sap_translate.proofs.Premises.LowerLaws.{Laws}
 use Rattle.sap_translate.proofs.ByHand.Traces.{inputs_sound, inputs_over}
 use Rattle.sap_translate.proofs.ByHand.Parts.{rules_show_only}
 use Rattle.sap_translate.proofs.ByHand.Moves.{Moves, past_first, head_name, apart, unlike, not_the_one, is_the_one, AtMostOne, none_yet, becomes_one, stays_other, comes_other, none_left, only_item, no_item}
-use Rattle.sap_translate.proofs.Lists.Lookups.{Every, every-set, every_push}
+use Rattle.sap_translate.proofs.Shared.Lookups.{Every, every-set, every_push}
 
 -- the process waits for an input, behind which it shows one event
 abbrev Waits : Proc → Type 0

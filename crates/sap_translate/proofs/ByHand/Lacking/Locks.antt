@@ -14,7 +14,7 @@ use Rattle.sap_process.specs.Proc.{Proc, act, test}
 use Rattle.sap_process.specs.ProcessSteps.{ProcessStep, IsProcessTrace, with_choice}
 use Rattle.sap_translate.specs.Examples.{term_s, x, g_fact, no_fact, locked_twice}
 use Rattle.sap_translate.specs.Faithful.{IsVisibleTrace}
-use Rattle.sap_translate.specs.Templates.{rules_of}
+use Rattle.sap_templates.specs.Templates.{rules_of}
 use Rattle.sap_translate.proofs.ByHand.Channels.{testing_twice, once_more, given_back, kept, locks_sound, locks_over}
 use Rattle.sap_translate.proofs.ByHand.Moves.{Moves, past_first, head_name, apart, Only, only_is, only_becomes, only_item, no_item}
 use Rattle.sap_translate.proofs.ByHand.Parts.{rules_show_only, form_is_own}

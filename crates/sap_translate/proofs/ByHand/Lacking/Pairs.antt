@@ -14,11 +14,11 @@ use Rattle.sap_process.specs.Proc.{Proc, act}
 use Rattle.sap_process.specs.ProcessSteps.{Fits, ProcessStep, IsProcessTrace}
 use Rattle.sap_translate.specs.Examples.{term_a, term_b, a_fact, twin_pattern, twins_told}
 use Rattle.sap_translate.specs.Faithful.{IsVisibleTrace}
-use Rattle.sap_translate.specs.Templates.{rules_of}
+use Rattle.sap_templates.specs.Templates.{rules_of}
 use Rattle.sap_translate.proofs.ByHand.Parts.{rules_show_only}
 use Rattle.sap_translate.proofs.ByHand.Moves.{Moves, past_first, head_name, apart, unlike, only_item, no_item}
 use Rattle.sap_translate.proofs.ByHand.Pairs.{no_match, twins_sound, twins_over}
-use Rattle.sap_translate.proofs.Lists.Lookups.{Every, every-set}
+use Rattle.sap_translate.proofs.Shared.Lookups.{Every, every-set}
 use Rattle.sap_translate.proofs.Premises.LowerLaws.{Laws}
 
 -- the process waits for a pair of equal terms

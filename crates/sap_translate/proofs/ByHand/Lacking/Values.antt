@@ -12,7 +12,7 @@ use Rattle.sap_process.specs.Proc.{Proc, act}
 use Rattle.sap_process.specs.ProcessSteps.{ProcessStep, IsProcessTrace}
 use Rattle.sap_translate.specs.Examples.{term_k, no_fact, yes_fact, deleted_again}
 use Rattle.sap_translate.specs.Faithful.{IsVisibleTrace}
-use Rattle.sap_translate.specs.Templates.{rules_of}
+use Rattle.sap_templates.specs.Templates.{rules_of}
 use Rattle.sap_translate.proofs.ByHand.Moves.{Moves, past_first, head_name, apart, unlike, Only, only_is, only_becomes, only_item, no_item}
 use Rattle.sap_translate.proofs.ByHand.Parts.{rules_show_only, form_is_own}
 use Rattle.sap_translate.proofs.ByHand.Traces.{asking, deletes_sound, deletes_over}

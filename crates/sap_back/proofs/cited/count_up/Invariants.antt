@@ -1,6 +1,0 @@
-use Rattle.std.proofs.Common.{◌≡◌, ◌-◌, ◌++◌}
-use Rattle.sap_back.specs.Followed.{numbers_from}
-use Rattle.sap_back.proofs.cited.count_up.Given as goal
-
-abbrev pub invariant-loop-k : goal.invariant-loop-k
-invariant-loop-k l = l.list.items ≡ l.initial.list.items ++ numbers_from l.first (l.k - l.first)

@@ -1,7 +1,0 @@
-use Rattle.std.proofs.Common.{◌≡◌, drop}
-use Rattle.sap_back.proofs.NumberLists.{after_all}
-use Rattle.sap_back.specs.code.Told.{numbers_of}
-use Rattle.sap_back.proofs.cited.numbers_cited.Given as goal
-
-abbrev pub invariant-loop-k : goal.invariant-loop-k
-invariant-loop-k l = numbers_of l.table l.cited ≡ after_all l.numbers (numbers_of l.table (drop l.k-index l.cited))

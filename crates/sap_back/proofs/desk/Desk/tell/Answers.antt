@@ -1,4 +1,0 @@
-use Rattle.sap_back.proofs.desk.Desk.tell.Goals as goal
-
-pub returns-in-Learn : goal.returns-in-Learn
-returns-in-Learn c = rw c.in-Learn.is (c.learn.ensures c.args.lines.now)

@@ -1,0 +1,4 @@
+pub mod Pending
+pub mod Tables
+pub mod Kinds
+pub mod Told

@@ -1,0 +1,8 @@
+//! The rules of a process, which templates make of its places one by one.
+#![tactic(auto)]
+
+mod facts;
+mod generation;
+mod rules;
+
+pub use generation::generate;
