@@ -63,7 +63,7 @@ fn clear(slots: &mut Vec<Option<SharedFact>>, k: u64)
         None => false,
     };
     if linear {
-        slots[k as usize] = None;
+        drop(slots[k as usize].take());
     }
 }
 

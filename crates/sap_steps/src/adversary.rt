@@ -46,8 +46,13 @@ pub(crate) fn give(facts: &mut SharedPile, alloc: Global, number: u64) -> Result
 {
     let t = facts.table().tree(alloc, number)?;
     let shown = shown_alone(alloc, t)?;
-    facts.put_single(alloc, b"In", number)?;
-    Ok(shown)
+    match facts.put_single(alloc, b"In", number) {
+        Err(_) => {
+            drop(shown);
+            Err(Mem)
+        }
+        Ok(()) => Ok(shown),
+    }
 }
 
 // The number of what the fact of this number puts out.

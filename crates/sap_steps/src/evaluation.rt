@@ -66,6 +66,8 @@ fn evaluate(
     let acts = forms_of_facts(alloc, sig, &rule.acts, c)?;
     let right = forms_of_facts(alloc, sig, &rule.right, c)?;
     if !same {
+        drop(acts);
+        drop(right);
         return Err(RFault::Unequal);
     }
     Ok(BuiltSides { acts, right })

@@ -133,10 +133,13 @@ fn fire_matched(
     laws_below();
     let env = facts.number(alloc, &rule.order, c)?;
     if !facts.binds_small_forms(&env) {
+        drop(env);
         return fire_on_trees(alloc, sig, rule, facts, numbers, cited, b, c);
     }
     let same = is_left_same(alloc, sig, &rule.rule, cited, c)?;
-    fire_bound(alloc, sig, rule, facts, numbers, b, &env, same)
+    let fired = fire_bound(alloc, sig, rule, facts, numbers, b, &env, same);
+    drop(env);
+    fired
 }
 
 // The same on trees.
@@ -197,7 +200,9 @@ fn fire_plain(
     ensures slots { facts.new.slots ≡ facts.old.slots }
 {
     let mut env = facts.number(alloc, &rule.order, b)?;
-    fire_numbered(alloc, sig, rule, facts, numbers, b, &mut env)
+    let fired = fire_numbered(alloc, sig, rule, facts, numbers, b, &mut env);
+    drop(env);
+    fired
 }
 
 // The same, where the bindings have numbers for their terms. Trees are built where a bound term isn't normal, or has more
@@ -270,6 +275,7 @@ fn fire_bound(
     sig.builtins_are_held();
     let sides = facts.form(alloc, env, &rule.rule)?;
     if !same {
+        drop(sides);
         return Err(RFault::Unequal);
     }
     Ok(sides)

@@ -72,7 +72,7 @@ fn clear(slots: &mut Vec<Option<SharedFact>>, k: u64)
     ensures items { slots.new.items ≡ slice_set slots.old.items k None }
     ensures capacity { vec_capacity slots.new ≡ vec_capacity slots.old }
 {
-    slots[k as usize] = None;
+    drop(slots[k as usize].take());
 }
 
 impl HasFacts for SharedPile {

@@ -22,8 +22,13 @@ pub(crate) fn carry_out(
     ensures acts { IfOk result (λ acts. acts ≡ fired.acts) }
 {
     let Sides { acts, right } = fired;
-    exchange(facts, numbers, right)?;
-    Ok(acts)
+    match exchange(facts, numbers, right) {
+        Err(_) => {
+            drop(acts);
+            Err(Mem)
+        }
+        Ok(()) => Ok(acts),
+    }
 }
 
 // Takes the facts with these numbers and adds others, if memory is found for them.

@@ -8,7 +8,7 @@ use Rattle.sap_calc.specs.Running.{Running, configuration, WouldFind, FindsNothi
 use Rattle.sap_calc.specs.ThreadHeads.{HasHead, taken_patterns}
 use Rattle.sap_deduce.specs.Entries.{terms_of}
 use Rattle.sap_grammar.specs.TermText.{tree_text, term_text, variable_text}
-use Rattle.sap_lines.specs.Answers.{MatchesExactly, ProcessLinesHaveOneAnswer}
+use Rattle.sap_lines.specs.Answers.{MatchesExactly}
 use Rattle.sap_lines.specs.Lines as lines
 use Rattle.sap_lines.specs.Lines.{IsProcessLine}
 use Rattle.sap_lines.specs.Places.{form_proc}
@@ -17,9 +17,8 @@ use Rattle.sap_lines.specs.declared.form.Form.TheVariants as form
 use Rattle.sap_process.specs.Action as action
 use Rattle.sap_process.specs.Configuration.{Config, Runs}
 use Rattle.sap_process.specs.Proc.{Proc, act, test, lookup}
-use Rattle.sap_rewrite.specs.Laws.{EachHasForm, FormIsOne, EqualityIsKept}
 use Rattle.sap_rewrite.specs.Match.{Agrees, HaveOneSort, Turns, bound_vars}
-use Rattle.sap_rewrite.specs.Pattern.{IsPattern, MatchingIsModulo}
+use Rattle.sap_rewrite.specs.Pattern.{IsPattern}
 use Rattle.sap_runs.specs.Inner.{InnerAction, equal, different, found, missing, inserted, deleted, locked, unlocked}
 use Rattle.sap_runs.specs.Limits.{HasFewNodes}
 use Rattle.sap_runs.specs.declared.process_step.PStep.{PStep}
@@ -27,7 +26,6 @@ use Rattle.sap_runs.specs.declared.process_step.PStep.TheVariants as line
 use Rattle.sap_terms.specs.Choice.{Choice, instance}
 use Rattle.sap_terms.specs.Equal.{IsTheoryEqual}
 use Rattle.sap_terms.specs.Equations.{equations, app2, pair_name, IsDestructor}
-use Rattle.sap_terms.specs.Laws.{LeavesAreNormal, DestructorsHeadLeftSides}
 use Rattle.sap_terms.specs.Message.{IsMessageChoice}
 use Rattle.sap_terms.specs.Normal.{IsNormal, IsNormalForm}
 use Rattle.sap_terms.specs.Signature.{Sig}
@@ -42,6 +40,7 @@ use Rattle.sap_tell.specs.Told as told
 use Rattle.sap_tell.specs.Told.{IsDoing, bound_texts}
 use Rattle.sap_tell.specs.ToldText.{bound_text, begins_text, call_text, held_text, free_text}
 use Rattle.sap_teller.specs.code.Doings.{action_of, outcomes_of, binding_texts}
+use Rattle.sap_teller.specs.code.LawsBelow.{Laws}
 use Rattle.sap_teller.specs.code.Heads.{IsOfOne, IsOfTwo, IsMade, IsCompared, IsInserted, IsDeleted, IsLooked, IsLocked, IsUnlocked, IsFitted, IsMetBy, IsOfEntry, AreOfEntries, IsTakenAt}
 use Rattle.sap_teller.specs.declared.doing.Doing.{Doing}
 use Rattle.sap_teller.specs.declared.doing.Doing.TheVariants as does
@@ -51,16 +50,6 @@ use Rattle.sap_teller.proofs.Inverted.{IsOne, AreTwo, new_form, in_form, recv_fo
 abbrev pub DoesHere : Sig → Config → List Tree → Config → List Tree → PStep → Doing → Type 0
 DoesHere g c es d fs step x =
     (inner : List InnerAction) (label : List Fact) → IsProcessLine g HasFewNodes c es step inner label d fs → IsDoing g c es step inner label fs (action_of label x) (outcomes_of x)
-
--- the laws of lower crates that this rests on
-pub record Laws : Type 0 where
-  pub each : EachHasForm
-  pub one : FormIsOne
-  pub kept : EqualityIsKept
-  pub leaves : LeavesAreNormal
-  pub heads : DestructorsHeadLeftSides
-  pub modulo : MatchingIsModulo
-  pub answer : ProcessLinesHaveOneAnswer
 
 -- what is found out is what is done
 by_is : {g : Sig} {c : Config} {es fs : List Tree} {step : PStep} {inner : List InnerAction} {label : List Fact} {x y : Doing} → x ≡ y

@@ -47,7 +47,8 @@ use Rattle.sap_teller.specs.code.Doings.{action_of, outcomes_of, binding_texts}
 use Rattle.sap_teller.specs.code.Heads.{IsFitted, IsUsedAt, together}
 use Rattle.sap_teller.specs.declared.doing.Doing.{Doing}
 use Rattle.sap_teller.specs.declared.doing.Doing.TheVariants as does
-use Rattle.sap_teller.proofs.Does.{Laws, DoesHere, bound_as, agree_texts, turned}
+use Rattle.sap_teller.specs.code.LawsBelow.{Laws}
+use Rattle.sap_teller.proofs.Does.{DoesHere, bound_as, agree_texts, turned}
 use Rattle.sap_teller.proofs.Inverted.{rule_form}
 
 -- first occurrences, where the names of some before are known

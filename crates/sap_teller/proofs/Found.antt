@@ -18,7 +18,8 @@ use Rattle.sap_teller.specs.code.Heads.{form_at, IsBefore, Does, IsFoundOut, IsM
 use Rattle.sap_teller.specs.declared.before.Before.{Before}
 use Rattle.sap_teller.specs.declared.doing.Doing.{Doing}
 use Rattle.sap_teller.specs.declared.doing.Doing.TheVariants as does
-use Rattle.sap_teller.proofs.Does.{Laws, does_ends, does_splits, does_copies, does_names, does_writes, does_shows, does_sends, does_sends_on, does_knows, does_applies, does_made, does_agrees, does_differs, does_inserts, does_deletes, does_locks, does_unlocks, does_misses, does_finds, does_takes, does_meets}
+use Rattle.sap_teller.specs.code.LawsBelow.{Laws}
+use Rattle.sap_teller.proofs.Does.{does_ends, does_splits, does_copies, does_names, does_writes, does_shows, does_sends, does_sends_on, does_knows, does_applies, does_made, does_agrees, does_differs, does_inserts, does_deletes, does_locks, does_unlocks, does_misses, does_finds, does_takes, does_meets}
 use Rattle.sap_teller.proofs.Embeds.{does_embeds}
 use Rattle.sap_teller.proofs.Headed.{by_head, by_sender}
 

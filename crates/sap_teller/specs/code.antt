@@ -3,5 +3,6 @@
 pub mod Outcomes
 pub mod Doings
 pub mod Heads
+pub mod LawsBelow
 pub mod Lines
 pub mod Runs

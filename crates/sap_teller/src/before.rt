@@ -5,6 +5,7 @@ ghost use Rattle.sap_facts.specs.Cited.{cited_at};
 ghost use Rattle.sap_teller.specs.code.Heads.{cited_of, form_at, form_of, head_of, sender_of, IsBefore, IsHead, IsKept, IsStored};
 
 use sap_calc::Config;
+use sap_grammar::boxed;
 use sap_lines::Form;
 use sap_runs::PStep;
 use sap_terms::{FactList, Mem, Term};
@@ -92,19 +93,22 @@ fn with_cited(
     stored: Option<Term>,
     head: Option<Box<Form>>,
     sender: Option<Box<Form>>,
-) -> Result<Before, Mem>
-    ensures { IfOk result (IsKept config.now facts step.now stored head sender) }
+) -> Result<Box<Before>, Mem>
+    ensures { IfOk result (λ b. IsKept config.now facts step.now stored head sender b.value) }
 {
     let cited = cited_by(alloc, config, step)?;
-    Ok(Before {
-        threads: config.thread_count(),
-        entries: config.entry_count(),
-        facts,
-        head,
-        sender,
-        stored,
-        cited,
-    })
+    boxed(
+        alloc,
+        Before {
+            threads: config.thread_count(),
+            entries: config.entry_count(),
+            facts,
+            head,
+            sender,
+            stored,
+            cited,
+        },
+    )
 }
 
 // All that is kept, where what the key has and the first head are found.
@@ -115,11 +119,11 @@ fn with_sender(
     step: &PStep,
     stored: Option<Term>,
     head: Option<Box<Form>>,
-) -> Result<Before, Mem>
+) -> Result<Box<Before>, Mem>
     requires facts { facts ≡ length config.now.facts }
     requires stored { IsStored config.now step.now stored }
     requires head { IsHead (configuration config.now) (head_of step.now) head }
-    ensures { IfOk result (IsBefore config.now step.now) }
+    ensures { IfOk result (λ b. IsBefore config.now step.now b.value) }
 {
     let sender = sender_at(alloc, config, step)?;
     with_cited(alloc, config, facts, step, stored, head, sender)
@@ -132,10 +136,10 @@ fn with_heads(
     facts: u64,
     step: &PStep,
     stored: Option<Term>,
-) -> Result<Before, Mem>
+) -> Result<Box<Before>, Mem>
     requires facts { facts ≡ length config.now.facts }
     requires stored { IsStored config.now step.now stored }
-    ensures { IfOk result (IsBefore config.now step.now) }
+    ensures { IfOk result (λ b. IsBefore config.now step.now b.value) }
 {
     let head = head_at(alloc, config, step)?;
     with_sender(alloc, config, facts, step, stored, head)
@@ -147,9 +151,9 @@ pub(crate) fn kept_before(
     config: &mut Config,
     facts: u64,
     step: &PStep,
-) -> Result<Before, Mem>
+) -> Result<Box<Before>, Mem>
     requires { facts ≡ length config.old.facts }
-    ensures ok { IfOk result (IsBefore config.old step.now) }
+    ensures ok { IfOk result (λ b. IsBefore config.old step.now b.value) }
     ensures kept { config.new ≡ config.old }
 {
     let stored = stored_at(alloc, config, step)?;

@@ -37,6 +37,8 @@ pub(crate) enum Doing<'a> {
     Compares(Term, Term, bool),
     /// A fact is shown.
     Shows,
+    /// Nothing: the line isn't possible.
+    Nothing,
     /// A value is stored at a key.
     Inserts(Term, Term),
     /// A key is cleared.
@@ -235,6 +237,7 @@ pub(crate) fn push_action(text: &mut Text, label: &FactList, doing: &Doing) -> R
         Doing::Takes(x, pair, _) => push_taken(text, x, *pair),
         Doing::Compares(x, y, _) => push_two(text, b"if ", x, b" = ", y),
         Doing::Shows => push_event(text, label),
+        Doing::Nothing => Ok(()),
         Doing::Inserts(k, v) => push_two(text, b"insert ", k, b", ", v),
         Doing::Deletes(k) => push_word(text, b"delete ", k),
         Doing::Looks(k, x, _) => push_looked(text, k, x),

@@ -10,6 +10,7 @@ ghost use Rattle.sap_teller.specs.code.Heads.{form_of, IsCompared, IsDeleted, Is
 ghost use Rattle.sap_teller.specs.declared.doing.Doing.TheVariants as does;
 
 use crate::doing::Doing;
+use sap_grammar::boxed;
 use sap_lines::Form;
 use sap_rewrite::{match_pattern, normal};
 use sap_terms::{
@@ -19,8 +20,8 @@ use sap_terms::{
 use std::alloc::Global;
 
 // What stands for a line that isn't possible.
-pub(crate) fn nothing<'a>() -> Doing<'a> {
-    Doing::Shows
+pub(crate) fn nothing<'a>(alloc: Global) -> Result<Box<Doing<'a>>, Mem> {
+    boxed(alloc, Doing::Nothing)
 }
 
 // The normal form of a term, which it is itself where no destructor stands in it.
@@ -47,12 +48,16 @@ fn two_forms(alloc: Global, sig: &Signature, m: &Term, n: &Term) -> Result<(Term
 }
 
 // A name is made for the variable at the head.
-pub(crate) fn made<'a>(n: u64, form: Option<&'a Form>) -> Doing<'a>
-    ensures { IsMade n (form_of form.entry) result }
+pub(crate) fn made<'a>(
+    alloc: Global,
+    n: u64,
+    form: Option<&'a Form>,
+) -> Result<Box<Doing<'a>>, Mem>
+    ensures { IfOk result (λ x. IsMade n (form_of form.entry) x.value) }
 {
     match form {
-        Some(Form::New(v)) => Doing::Makes(v, n),
-        _ => nothing(),
+        Some(Form::New(v)) => boxed(alloc, Doing::Makes(v, n)),
+        _ => nothing(alloc),
     }
 }
 
@@ -62,15 +67,15 @@ pub(crate) fn compared<'a>(
     sig: &Signature,
     form: Option<&Form>,
     same: bool,
-) -> Result<Doing<'a>, Mem>
-    ensures { IfOk result (λ x. IsCompared (equations sig.now) same (form_of form.entry) x) }
+) -> Result<Box<Doing<'a>>, Mem>
+    ensures { IfOk result (λ x. IsCompared (equations sig.now) same (form_of form.entry) x.value) }
 {
     match form {
         Some(Form::If(m, n)) => {
             let (a, b) = two_forms(alloc, sig, m, n)?;
-            Ok(Doing::Compares(a, b, same))
+            boxed(alloc, Doing::Compares(a, b, same))
         }
-        _ => Ok(nothing()),
+        _ => nothing(alloc),
     }
 }
 
@@ -79,15 +84,15 @@ pub(crate) fn inserted<'a>(
     alloc: Global,
     sig: &Signature,
     form: Option<&Form>,
-) -> Result<Doing<'a>, Mem>
-    ensures { IfOk result (λ x. IsInserted (equations sig.now) (form_of form.entry) x) }
+) -> Result<Box<Doing<'a>>, Mem>
+    ensures { IfOk result (λ x. IsInserted (equations sig.now) (form_of form.entry) x.value) }
 {
     match form {
         Some(Form::Insert(m, n)) => {
             let (a, b) = two_forms(alloc, sig, m, n)?;
-            Ok(Doing::Inserts(a, b))
+            boxed(alloc, Doing::Inserts(a, b))
         }
-        _ => Ok(nothing()),
+        _ => nothing(alloc),
     }
 }
 
@@ -96,12 +101,12 @@ pub(crate) fn deleted<'a>(
     alloc: Global,
     sig: &Signature,
     form: Option<&Form>,
-) -> Result<Doing<'a>, Mem>
-    ensures { IfOk result (λ x. IsDeleted (equations sig.now) (form_of form.entry) x) }
+) -> Result<Box<Doing<'a>>, Mem>
+    ensures { IfOk result (λ x. IsDeleted (equations sig.now) (form_of form.entry) x.value) }
 {
     match form {
-        Some(Form::Delete(m)) => Ok(Doing::Deletes(evaluated(alloc, sig, m)?)),
-        _ => Ok(nothing()),
+        Some(Form::Delete(m)) => boxed(alloc, Doing::Deletes(evaluated(alloc, sig, m)?)),
+        _ => nothing(alloc),
     }
 }
 
@@ -111,15 +116,15 @@ pub(crate) fn looked<'a>(
     sig: &Signature,
     form: Option<&'a Form>,
     found: Option<&'a Term>,
-) -> Result<Doing<'a>, Mem>
-    ensures { IfOk result (λ x. IsLooked (equations sig.now) found.entry (form_of form.entry) x) }
+) -> Result<Box<Doing<'a>>, Mem>
+    ensures { IfOk result (λ x. IsLooked (equations sig.now) found.entry (form_of form.entry) x.value) }
 {
     match form {
         Some(Form::Lookup(m, v)) => {
             let key = evaluated(alloc, sig, m)?;
-            Ok(Doing::Looks(key, v, found))
+            boxed(alloc, Doing::Looks(key, v, found))
         }
-        _ => Ok(nothing()),
+        _ => nothing(alloc),
     }
 }
 
@@ -128,12 +133,12 @@ pub(crate) fn locked<'a>(
     alloc: Global,
     sig: &Signature,
     form: Option<&Form>,
-) -> Result<Doing<'a>, Mem>
-    ensures { IfOk result (λ x. IsLocked (equations sig.now) (form_of form.entry) x) }
+) -> Result<Box<Doing<'a>>, Mem>
+    ensures { IfOk result (λ x. IsLocked (equations sig.now) (form_of form.entry) x.value) }
 {
     match form {
-        Some(Form::Lock(m, _)) => Ok(Doing::Holds(evaluated(alloc, sig, m)?, true)),
-        _ => Ok(nothing()),
+        Some(Form::Lock(m, _)) => boxed(alloc, Doing::Holds(evaluated(alloc, sig, m)?, true)),
+        _ => nothing(alloc),
     }
 }
 
@@ -142,32 +147,39 @@ pub(crate) fn unlocked<'a>(
     alloc: Global,
     sig: &Signature,
     form: Option<&Form>,
-) -> Result<Doing<'a>, Mem>
-    ensures { IfOk result (λ x. IsUnlocked (equations sig.now) (form_of form.entry) x) }
+) -> Result<Box<Doing<'a>>, Mem>
+    ensures { IfOk result (λ x. IsUnlocked (equations sig.now) (form_of form.entry) x.value) }
 {
     match form {
-        Some(Form::Unlock(m, _)) => Ok(Doing::Holds(evaluated(alloc, sig, m)?, false)),
-        _ => Ok(nothing()),
+        Some(Form::Unlock(m, _)) => boxed(alloc, Doing::Holds(evaluated(alloc, sig, m)?, false)),
+        _ => nothing(alloc),
     }
 }
 
-// An entry is taken, which fits the pattern.
-fn taken_alone<'a>(alloc: Global, n: &Term, x: &'a Term) -> Result<Doing<'a>, Mem>
-    ensures { IfOk result (λ r. IsFitted (tree n.now) (tree x.now) (does.Takes x.entry false) r) }
+// What a pattern binds by a term, if the term fits it.
+fn bound_to(alloc: Global, p: &Term, t: &Term) -> Result<Option<Bindings>, Mem>
+    ensures { IfOk result (λ o. MatchOption o (HasNoMatch (tree p.now) (tree t.now) []) (λ b. IsOnlyMatch (tree p.now) (tree t.now) [] b)) }
 {
-    match match_pattern(alloc, n, x, &Bindings::new(alloc))? {
-        None => Ok(nothing()),
-        Some(b) => Ok(Doing::Takes(x, false, b)),
+    match_pattern(alloc, p, t, &Bindings::new(alloc))
+}
+
+// An entry is taken, which fits the pattern.
+fn taken_alone<'a>(alloc: Global, n: &Term, x: &'a Term) -> Result<Box<Doing<'a>>, Mem>
+    ensures { IfOk result (λ r. IsFitted (tree n.now) (tree x.now) (does.Takes x.entry false) r.value) }
+{
+    match bound_to(alloc, n, x)? {
+        None => nothing(alloc),
+        Some(b) => boxed(alloc, Doing::Takes(x, false, b)),
     }
 }
 
 // A pair is taken, whose second part fits the pattern.
-fn taken_second<'a>(alloc: Global, n: &Term, x: &'a Term, second: &Term) -> Result<Doing<'a>, Mem>
-    ensures { IfOk result (λ r. IsFitted (tree n.now) (tree second.now) (does.Takes x.entry true) r) }
+fn taken_second<'a>(alloc: Global, n: &Term, x: &'a Term, second: &Term) -> Result<Box<Doing<'a>>, Mem>
+    ensures { IfOk result (λ r. IsFitted (tree n.now) (tree second.now) (does.Takes x.entry true) r.value) }
 {
-    match match_pattern(alloc, n, second, &Bindings::new(alloc))? {
-        None => Ok(nothing()),
-        Some(b) => Ok(Doing::Takes(x, true, b)),
+    match bound_to(alloc, n, second)? {
+        None => nothing(alloc),
+        Some(b) => boxed(alloc, Doing::Takes(x, true, b)),
     }
 }
 
@@ -187,26 +199,26 @@ fn second_of(x: &Term) -> Option<&Term>
 }
 
 // An entry is taken, and this is what it binds.
-pub(crate) fn taken<'a>(alloc: Global, form: Option<&Form>, x: &'a Term) -> Result<Doing<'a>, Mem>
-    ensures { IfOk result (λ r. IsTakenBy x.entry (form_of form.entry) r) }
+pub(crate) fn taken<'a>(alloc: Global, form: Option<&Form>, x: &'a Term) -> Result<Box<Doing<'a>>, Mem>
+    ensures { IfOk result (λ r. IsTakenBy x.entry (form_of form.entry) r.value) }
 {
     match form {
         Some(Form::In(n)) => taken_alone(alloc, n, x),
         Some(Form::Recv(_, n)) => match second_of(x) {
-            None => Ok(nothing()),
+            None => nothing(alloc),
             Some(second) => taken_second(alloc, n, x, second),
         },
-        _ => Ok(nothing()),
+        _ => nothing(alloc),
     }
 }
 
 // What is sent on a channel, and what binds who takes it by the pattern.
-fn met_by<'a>(alloc: Global, p: &Term, channel: Term, message: Term) -> Result<Doing<'a>, Mem>
-    ensures { IfOk result (λ r. IsFitted (tree p.now) (tree message) (does.Meets channel message) r) }
+fn met_by<'a>(alloc: Global, p: &Term, channel: Term, message: Term) -> Result<Box<Doing<'a>>, Mem>
+    ensures { IfOk result (λ r. IsFitted (tree p.now) (tree message) (does.Meets channel message) r.value) }
 {
-    match match_pattern(alloc, p, &message, &Bindings::new(alloc))? {
-        None => Ok(nothing()),
-        Some(b) => Ok(Doing::Meets(channel, message, b)),
+    match bound_to(alloc, p, &message)? {
+        None => nothing(alloc),
+        Some(b) => boxed(alloc, Doing::Meets(channel, message, b)),
     }
 }
 
@@ -216,8 +228,8 @@ pub(crate) fn met<'a>(
     sig: &Signature,
     sender: Option<&Form>,
     form: Option<&Form>,
-) -> Result<Doing<'a>, Mem>
-    ensures { IfOk result (λ r. IsMetBy (equations sig.now) (form_of sender.entry) (form_of form.entry) r) }
+) -> Result<Box<Doing<'a>>, Mem>
+    ensures { IfOk result (λ r. IsMetBy (equations sig.now) (form_of sender.entry) (form_of form.entry) r.value) }
 {
     match sender {
         Some(Form::Send(m, n)) => match form {
@@ -225,9 +237,9 @@ pub(crate) fn met<'a>(
                 let (a, u) = two_forms(alloc, sig, m, n)?;
                 met_by(alloc, p, a, u)
             }
-            _ => Ok(nothing()),
+            _ => nothing(alloc),
         },
-        _ => Ok(nothing()),
+        _ => nothing(alloc),
     }
 }
 
@@ -268,7 +280,7 @@ fn bound_by(alloc: Global, l: &FactList, left: &FactList) -> Result<Option<Bindi
 {
     let pattern = term_of(alloc, l)?;
     let term = term_of(alloc, left)?;
-    match_pattern(alloc, &pattern, &term, &Bindings::new(alloc))
+    bound_to(alloc, &pattern, &term)
 }
 
 // A rule is used on the facts that are cited, adds these, and leaves variables open that stand for these terms.
@@ -278,14 +290,14 @@ pub(crate) fn used<'a>(
     left: &'a FactList,
     right: FactList,
     chosen: &'a Bindings,
-) -> Result<Doing<'a>, Mem>
-    ensures { IfOk result (λ r. IsUsedBy left.entry right chosen.entry (form_of form.entry) r) }
+) -> Result<Box<Doing<'a>>, Mem>
+    ensures { IfOk result (λ r. IsUsedBy left.entry right chosen.entry (form_of form.entry) r.value) }
 {
     match form {
         Some(Form::Embedded(l, _, _)) => match bound_by(alloc, l, left)? {
-            None => Ok(nothing()),
-            Some(b) => Ok(Doing::Uses(left, right, b, chosen)),
+            None => nothing(alloc),
+            Some(b) => boxed(alloc, Doing::Uses(left, right, b, chosen)),
         },
-        _ => Ok(nothing()),
+        _ => nothing(alloc),
     }
 }

@@ -7,6 +7,7 @@ ghost use Rattle.sap_terms.specs.Equations.{equations};
 ghost use Rattle.sap_terms.specs.View.{tree};
 ghost use Rattle.sap_terms.specs.declared.term.Term.TheVariants as term;
 ghost use Rattle.sap_teller.specs.code.Heads.{count_added, form_of, AreOfEntries, IsFoundOut, IsLooked, IsOfEntry, IsTakenAt, IsUsedAt};
+ghost use Rattle.sap_teller.specs.code.LawsBelow.{Laws};
 ghost use Rattle.sap_teller.specs.declared.doing.Doing.TheVariants as does;
 
 use crate::before::{Before, lent};
@@ -15,6 +16,7 @@ use crate::finding::{
     compared, deleted, inserted, locked, looked, made, met, nothing, taken, unlocked, used,
 };
 use sap_calc::Config;
+use sap_grammar::boxed;
 use sap_lines::{Form, lines_have_one_answer};
 use sap_rewrite::{
     each_term_has_a_normal_form, equality_is_kept, matching_is_modulo, normal_forms_are_unique,
@@ -27,52 +29,58 @@ use sap_terms::{
 use std::alloc::Global;
 
 // The last entry is put out.
-fn sent<'a>(config: &'a Config, k: u64) -> Doing<'a>
-    ensures { IsOfEntry (terms_of config.now.known) k does.Sends result }
+fn sent<'a>(alloc: Global, config: &'a Config, k: u64) -> Result<Box<Doing<'a>>, Mem>
+    ensures { IfOk result (λ x. IsOfEntry (terms_of config.now.known) k does.Sends x.value) }
 {
     match config.entry(k) {
-        None => nothing(),
-        Some(t) => Doing::Sends(t),
+        None => nothing(alloc),
+        Some(t) => boxed(alloc, Doing::Sends(t)),
     }
 }
 
 // An entry is shown.
-fn given<'a>(config: &'a Config, k: u64) -> Doing<'a>
-    ensures { IsOfEntry (terms_of config.now.known) k does.Gives result }
+fn given<'a>(alloc: Global, config: &'a Config, k: u64) -> Result<Box<Doing<'a>>, Mem>
+    ensures { IfOk result (λ x. IsOfEntry (terms_of config.now.known) k does.Gives x.value) }
 {
     match config.entry(k) {
-        None => nothing(),
-        Some(t) => Doing::Gives(t),
+        None => nothing(alloc),
+        Some(t) => boxed(alloc, Doing::Gives(t)),
     }
 }
 
 // A public name is written down.
-fn written<'a>(a: &'a Name) -> Doing<'a>
-    ensures { result ≡ does.Writes a.entry }
+fn written<'a>(alloc: Global, a: &'a Name) -> Result<Box<Doing<'a>>, Mem>
+    ensures { IfOk result (λ x. x.value ≡ does.Writes a.entry) }
 {
-    Doing::Writes(a)
+    boxed(alloc, Doing::Writes(a))
 }
 
 // The last entry is put out on the channel that another is.
-fn sent_on<'a>(config: &'a Config, k: u64, last: u64) -> Doing<'a>
-    ensures { AreOfEntries (terms_of config.now.known) k last does.SendsOn result }
+fn sent_on<'a>(alloc: Global, config: &'a Config, k: u64, last: u64) -> Result<Box<Doing<'a>>, Mem>
+    ensures { IfOk result (λ x. AreOfEntries (terms_of config.now.known) k last does.SendsOn x.value) }
 {
     match config.entry(k) {
-        None => nothing(),
+        None => nothing(alloc),
         Some(channel) => match config.entry(last) {
-            None => nothing(),
-            Some(t) => Doing::SendsOn(channel, t),
+            None => nothing(alloc),
+            Some(t) => boxed(alloc, Doing::SendsOn(channel, t)),
         },
     }
 }
 
 // A symbol on entries gives the last one.
-fn applied<'a>(config: &'a Config, f: &'a Name, numbers: &'a Numbers, last: u64) -> Doing<'a>
-    ensures { IsOfEntry (terms_of config.now.known) last (does.Applies f.entry numbers.entry) result }
+fn applied<'a>(
+    alloc: Global,
+    config: &'a Config,
+    f: &'a Name,
+    numbers: &'a Numbers,
+    last: u64,
+) -> Result<Box<Doing<'a>>, Mem>
+    ensures { IfOk result (λ x. IsOfEntry (terms_of config.now.known) last (does.Applies f.entry numbers.entry) x.value) }
 {
     match config.entry(last) {
-        None => nothing(),
-        Some(t) => Doing::Applies(f, numbers, t),
+        None => nothing(alloc),
+        Some(t) => boxed(alloc, Doing::Applies(f, numbers, t)),
     }
 }
 
@@ -82,11 +90,11 @@ fn taken_at<'a>(
     config: &'a Config,
     form: Option<&Form>,
     k: u64,
-) -> Result<Doing<'a>, Mem>
-    ensures { IfOk result (λ x. IsTakenAt (terms_of config.now.known) k (form_of form.entry) x) }
+) -> Result<Box<Doing<'a>>, Mem>
+    ensures { IfOk result (λ x. IsTakenAt (terms_of config.now.known) k (form_of form.entry) x.value) }
 {
     match config.entry(k) {
-        None => Ok(nothing()),
+        None => nothing(alloc),
         Some(x) => taken(alloc, form, x),
     }
 }
@@ -130,11 +138,24 @@ fn used_at<'a>(
     before: &'a Before,
     form: Option<&Form>,
     chosen: &'a Bindings,
-) -> Result<Doing<'a>, Mem>
-    ensures { IfOk result (λ x. IsUsedAt before.now.cited config.now.facts before.now.facts chosen.entry (form_of form.entry) x) }
+) -> Result<Box<Doing<'a>>, Mem>
+    ensures { IfOk result (λ x. IsUsedAt before.now.cited config.now.facts before.now.facts chosen.entry (form_of form.entry) x.value) }
 {
     let right = added(alloc, config, before.facts, added_count(form))?;
     used(alloc, form, &before.cited, right, chosen)
+}
+
+// What the layers below say of normal forms, matching and lines.
+fn laws_below()
+    ensures { Laws }
+{
+    each_term_has_a_normal_form();
+    normal_forms_are_unique();
+    equality_is_kept();
+    leaves_are_normal();
+    destructors_head_left_sides();
+    matching_is_modulo();
+    lines_have_one_answer();
 }
 
 /// What a line did that led here, by what was kept of it before.
@@ -144,30 +165,24 @@ pub(crate) fn found_out<'a>(
     config: &'a Config,
     before: &'a Before,
     step: &'a PStep,
-) -> Result<Doing<'a>, Mem>
+) -> Result<Box<Doing<'a>>, Mem>
     requires { config.now.sig ≡ sig.now }
-    ensures { IfOk result (λ x. IsFoundOut before.now config.now step.now x) }
+    ensures { IfOk result (λ x. IsFoundOut before.now config.now step.now x.value) }
 {
-    each_term_has_a_normal_form();
-    normal_forms_are_unique();
-    equality_is_kept();
-    leaves_are_normal();
-    destructors_head_left_sides();
-    matching_is_modulo();
-    lines_have_one_answer();
+    laws_below();
     let head = lent(&before.head);
     match step {
-        PStep::Nil(t) => Ok(Doing::Ends(*t)),
-        PStep::Par(_) => Ok(Doing::Splits(before.threads)),
-        PStep::Rep(_) => Ok(Doing::Copies(before.threads)),
-        PStep::New(_, n) => Ok(made(*n, head)),
-        PStep::Out(_) => Ok(sent(config, before.entries)),
-        PStep::Send(_, k) => Ok(sent_on(config, *k, before.entries)),
+        PStep::Nil(t) => boxed(alloc, Doing::Ends(*t)),
+        PStep::Par(_) => boxed(alloc, Doing::Splits(before.threads)),
+        PStep::Rep(_) => boxed(alloc, Doing::Copies(before.threads)),
+        PStep::New(_, n) => made(alloc, *n, head),
+        PStep::Out(_) => sent(alloc, config, before.entries),
+        PStep::Send(_, k) => sent_on(alloc, config, *k, before.entries),
         PStep::In(_, k) => taken_at(alloc, config, head, *k),
         PStep::Sync(_, _) => met(alloc, sig, lent(&before.sender), head),
         PStep::Then(_) => compared(alloc, sig, head, true),
         PStep::Else(_) => compared(alloc, sig, head, false),
-        PStep::Event(_) => Ok(Doing::Shows),
+        PStep::Event(_) => boxed(alloc, Doing::Shows),
         PStep::Insert(_) => inserted(alloc, sig, head),
         PStep::Delete(_) => deleted(alloc, sig, head),
         PStep::Found(_) => looked(alloc, sig, head, before.stored.as_ref()),
@@ -175,9 +190,9 @@ pub(crate) fn found_out<'a>(
         PStep::Lock(_) => locked(alloc, sig, head),
         PStep::Unlock(_) => unlocked(alloc, sig, head),
         PStep::Embedded(_, _, chosen) => used_at(alloc, config, before, head, chosen),
-        PStep::Name(n) => Ok(Doing::Names(*n)),
-        PStep::Public(a) => Ok(written(a)),
-        PStep::Apply(f, numbers) => Ok(applied(config, f, numbers, before.entries)),
-        PStep::Know(k) => Ok(given(config, *k)),
+        PStep::Name(n) => boxed(alloc, Doing::Names(*n)),
+        PStep::Public(a) => written(alloc, a),
+        PStep::Apply(f, numbers) => applied(alloc, config, f, numbers, before.entries),
+        PStep::Know(k) => given(alloc, config, *k),
     }
 }

@@ -181,6 +181,7 @@ pub(crate) fn push_outcomes(text: &mut Text, first: bool, doing: &Doing) -> Resu
         Doing::Sends(_)
         | Doing::SendsOn(_, _)
         | Doing::Shows
+        | Doing::Nothing
         | Doing::Inserts(_, _)
         | Doing::Deletes(_)
         | Doing::Names(_)

@@ -1,12 +1,12 @@
 //! Lines that are done and told.
 ghost use Rattle.std.specs.Prelude.{◌≡◌, ◌+◌, ◌<◌, [], ◌∷◌, ◌++◌, ℕ, IfOk, IfErr, OnOk, length, slice_get};
-ghost use Rattle.sap_calc.specs.Running.{configuration, IsDenied};
+ghost use Rattle.sap_calc.specs.Running.{configuration, IsDenied, IsDone};
 ghost use Rattle.sap_deduce.specs.Entries.{terms_of};
 ghost use Rattle.sap_lines.specs.Answers.{MatchesExactly};
 ghost use Rattle.sap_teller.specs.Telling.{IsToldApart, IsToldOn};
 ghost use Rattle.sap_tell.specs.ThreadPaths.{paths_after};
 ghost use Rattle.sap_tell.specs.ToldText.{actor_text};
-ghost use Rattle.sap_teller.specs.code.Heads.{added_by, form_at};
+ghost use Rattle.sap_teller.specs.code.Heads.{added_by, form_at, IsBefore};
 ghost use Rattle.sap_teller.specs.code.Lines.{apart_text, body_text, numbered_text, IsPushed, IsPushedTwice, IsToldApartFrom, IsToldFrom};
 
 use crate::before::{Before, kept_before, lent};
@@ -27,6 +27,29 @@ pub struct Along {
     pub paths: ThreadPaths,
     pub lines: u64,
     pub facts: u64,
+}
+
+// A line that was done: what was kept of it before, and its label.
+#[derive(Drop)]
+struct Done {
+    kept: Box<Before>,
+    label: FactList,
+}
+
+// Does one line, where so many facts ever were, and keeps of it what it is told by.
+fn do_line(alloc: Global, config: &mut Config, facts: u64, step: &PStep) -> Result<Done, PFault>
+    requires { facts ≡ length config.old.facts }
+    ensures kept { IfOk result (λ d. IsBefore config.old step.now d.kept.value) }
+    ensures done { IfOk result (λ d. IsDone config.old config.new step.now d.label) }
+    ensures refused { IfErr result (IsDenied config.old step.now) }
+{
+    match kept_before(alloc, config, facts, step) {
+        Err(_) => Err(PFault::Mem),
+        Ok(kept) => match config.step(alloc, step) {
+            Err(fault) => Err(fault),
+            Ok(label) => Ok(Done { kept, label }),
+        },
+    }
 }
 
 // What is done, and what comes of it, where so many entries were before.
@@ -99,7 +122,7 @@ impl Along {
     }
 }
 
-// What the line did, and what comes of it. What was found out is let go by `drop`, which is proved once for all types.
+// What the line did, and what comes of it.
 fn push_line(
     alloc: Global,
     sig: &Signature,
@@ -112,14 +135,8 @@ fn push_line(
     requires { config.now.sig ≡ sig.now }
     ensures { OnOk result (IsPushed kept.now config.now step.now label.now text.old text.new) }
 {
-    match found_out(alloc, sig, config, kept, step) {
-        Err(_) => Err(Mem),
-        Ok(doing) => {
-            let pushed = push_body(text, config, kept.entries, label, &doing);
-            drop(doing);
-            pushed
-        }
-    }
+    let doing = found_out(alloc, sig, config, kept, step)?;
+    push_body(text, config, kept.entries, label, &doing)
 }
 
 // Tells a line that was done, and goes on.
@@ -160,14 +177,11 @@ pub fn tell_line(
     ensures ok { IfOk result (λ label. IsToldOn config.old config.new at.old at.new text.old text.new step.now label) }
     ensures refused { IfErr result (IsDenied config.old step.now) }
 {
-    match kept_before(alloc, config, at.facts, step) {
-        Err(_) => Err(PFault::Mem),
-        Ok(kept) => match config.step(alloc, step) {
-            Err(fault) => Err(fault),
-            Ok(label) => match tell(alloc, sig, config, at, &kept, step, &label, text) {
-                Err(_) => Err(PFault::Mem),
-                Ok(()) => Ok(label),
-            },
+    match do_line(alloc, config, at.facts, step) {
+        Err(fault) => Err(fault),
+        Ok(done) => match tell(alloc, sig, config, at, &done.kept, step, &done.label, text) {
+            Err(_) => Err(PFault::Mem),
+            Ok(()) => Ok(done.label),
         },
     }
 }
@@ -211,14 +225,8 @@ fn push_twice(
     requires { config.now.sig ≡ sig.now }
     ensures { OnOk result (IsPushedTwice kept.now config.now step.now label.now text.old text.new apart.old apart.new) }
 {
-    match found_out(alloc, sig, config, kept, step) {
-        Err(_) => Err(Mem),
-        Ok(doing) => {
-            let pushed = push_both(text, apart, config, kept.entries, label, &doing);
-            drop(doing);
-            pushed
-        }
-    }
+    let doing = found_out(alloc, sig, config, kept, step)?;
+    push_both(text, apart, config, kept.entries, label, &doing)
 }
 
 // Tells a line that was done, and apart from it what it does, and goes on.
@@ -260,16 +268,21 @@ pub fn tell_line_apart(
     ensures ok { IfOk result (λ label. IsToldApart config.old config.new at.old at.new text.old text.new apart.old apart.new step.now label) }
     ensures refused { IfErr result (IsDenied config.old step.now) }
 {
-    match kept_before(alloc, config, at.facts, step) {
-        Err(_) => Err(PFault::Mem),
-        Ok(kept) => match config.step(alloc, step) {
-            Err(fault) => Err(fault),
-            Ok(label) => match tell_apart(
-                alloc, sig, config, at, &kept, step, &label, text, apart,
-            ) {
-                Err(_) => Err(PFault::Mem),
-                Ok(()) => Ok(label),
-            },
+    match do_line(alloc, config, at.facts, step) {
+        Err(fault) => Err(fault),
+        Ok(done) => match tell_apart(
+            alloc,
+            sig,
+            config,
+            at,
+            &done.kept,
+            step,
+            &done.label,
+            text,
+            apart,
+        ) {
+            Err(_) => Err(PFault::Mem),
+            Ok(()) => Ok(done.label),
         },
     }
 }

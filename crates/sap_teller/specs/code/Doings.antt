@@ -31,6 +31,7 @@ action_of label (does.Meets x u b) = call_text (codes "out") (tree_text (tree x)
 action_of label (does.Takes x pair b) = call_text (codes "in") (term_text pair (tree x.now) ∷ [])
 action_of label (does.Compares x y same) = codes "if " ++ (tree_text (tree x) ++ (codes " = " ++ tree_text (tree y)))
 action_of label does.Shows = event_text label
+action_of label does.Nothing = []
 action_of label (does.Inserts k v) = codes "insert " ++ (tree_text (tree k) ++ (codes ", " ++ tree_text (tree v)))
 action_of label (does.Deletes k) = codes "delete " ++ tree_text (tree k)
 action_of label (does.Looks k x o) = codes "lookup " ++ (tree_text (tree k) ++ (codes " as " ++ variable_text x.now))
@@ -55,6 +56,7 @@ outcomes_of (does.Takes x pair b) = binding_texts b
 outcomes_of (does.Compares x y true) = codes "then" ∷ []
 outcomes_of (does.Compares x y false) = codes "else" ∷ []
 outcomes_of does.Shows = []
+outcomes_of does.Nothing = []
 outcomes_of (does.Inserts k v) = []
 outcomes_of (does.Deletes k) = []
 outcomes_of (does.Looks k x None) = codes "nothing there" ∷ []
