@@ -5,10 +5,9 @@ ghost use Rattle.sap_facts.specs.Cited.{cited_at};
 ghost use Rattle.sap_teller.specs.code.Heads.{cited_of, form_at, form_of, head_of, sender_of, IsBefore, IsHead, IsKept, IsStored};
 
 use sap_calc::Config;
-use sap_grammar::boxed;
 use sap_lines::Form;
 use sap_runs::PStep;
-use sap_terms::{FactList, Mem, Term};
+use sap_terms::{FactList, Mem, Term, boxed};
 use std::alloc::Global;
 
 /// What is kept of a line before it is done: how many threads, entries and facts there are, what stands at the heads of its threads,

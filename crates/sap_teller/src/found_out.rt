@@ -16,15 +16,14 @@ use crate::finding::{
     compared, deleted, inserted, locked, looked, made, met, nothing, taken, unlocked, used,
 };
 use sap_calc::Config;
-use sap_grammar::boxed;
 use sap_lines::{Form, lines_have_one_answer};
 use sap_rewrite::{
     each_term_has_a_normal_form, equality_is_kept, matching_is_modulo, normal_forms_are_unique,
 };
 use sap_runs::PStep;
 use sap_terms::{
-    Bindings, Copied, FactList, Mem, Name, Numbers, Signature, Term, destructors_head_left_sides,
-    leaves_are_normal,
+    Bindings, Copied, FactList, Mem, Name, Numbers, Signature, Term, boxed,
+    destructors_head_left_sides, leaves_are_normal,
 };
 use std::alloc::Global;
 
