@@ -1,5 +1,5 @@
 // The clauses that terms bring.
-ghost use Rattle.std.specs.Prelude.{◌≡◌, ◌<◌, ℕ, List, [], ◌∷◌, length, Some, IfOk, OnOk};
+ghost use Rattle.std.specs.Prelude.{◌≡◌, ◌<◌, ℕ, List, length, Some, IfOk, OnOk};
 ghost use Rattle.sap_terms.specs.Equations.{equations};
 ghost use Rattle.sap_terms.specs.Normal.{IsNormal};
 ghost use Rattle.sap_terms.specs.Tree.{apply, trees_of};
@@ -9,9 +9,7 @@ ghost use Rattle.sap_derive.specs.code.Closed.{IsClosure};
 ghost use Rattle.sap_derive.specs.code.Brought.{Adds};
 ghost use Rattle.sap_derive.specs.code.Clauses.{IsNumbered, AreNumbered, HasClause, HaveMakings, HaveOpenings};
 ghost use Rattle.sap_derive.specs.code.Openers.{AreOpeners};
-ghost use Rattle.sap_derive.specs.code.Shapes.{IsShapeOf};
 ghost use Rattle.sap_derive.specs.declared.line.Line.TheVariants.{Apply as ApplyLine};
-ghost use Rattle.sap_derive.specs.declared.shape.Shape.TheVariants.{Pair as PairShape, Encrypted as EncryptedShape, EncryptedTo as EncryptedToShape, Signed as SignedShape};
 
 use crate::clause::Clause;
 use crate::closure::Closure;
@@ -36,201 +34,62 @@ fn add(table: &Table, closure: &mut Closure, line: Line, gives: u64) -> Result<(
     closure.add(Clause { line, gives })
 }
 
-// A list of one number.
-fn one(alloc: Global, a: u64) -> Result<Numbers, Mem>
-    ensures { IfOk result (λ ks. ks ≡ a ∷ []) }
+// A list of these numbers.
+fn numbers_of(alloc: Global, ns: &[u64]) -> Result<Numbers, Mem>
+    ensures { IfOk result (λ ks. ks ≡ ns.now) }
 {
-    let mut ks = Numbers::with_room(alloc, 1)?;
-    ks.push(a)?;
+    let mut ks = Numbers::with_room(alloc, ns.len() as u64)?;
+    for n in ns {
+        ks.push(*n)?;
+    }
     Ok(ks)
 }
 
-// A list of two.
-fn two(alloc: Global, a: u64, b: u64) -> Result<Numbers, Mem>
-    ensures { IfOk result (λ ks. ks ≡ a ∷ b ∷ []) }
-{
-    let mut ks = Numbers::with_room(alloc, 2)?;
-    ks.push(a)?;
-    ks.push(b)?;
-    Ok(ks)
-}
-
-// Puts the clause of a symbol on these numbers last, where the symbol can be applied.
-fn apply_opener(
+// Puts the clause of a symbol on these numbers last.
+fn add_applied(
     table: &Table,
     closure: &mut Closure,
     alloc: Global,
-    opener: &Option<Name>,
-    premises: Numbers,
+    f: &Name,
+    premises: &[u64],
     gives: u64,
 ) -> Result<(), Mem>
     requires closure { IsClosure closure.old }
     requires numbered { AreNumbered table.now.sig table.now.trees closure.old.clauses }
-    requires this { (n : List ℕ) → opener.now ≡ Some n → IsNumbered table.now.sig table.now.trees (record { line = ApplyLine n premises; gives = gives }) }
+    requires this { IsNumbered table.now.sig table.now.trees (record { line = ApplyLine f.now premises.now; gives = gives }) }
     ensures closure { IsClosure closure.new }
     ensures numbered { AreNumbered table.now.sig table.now.trees closure.new.clauses }
     ensures adds { Adds closure.old closure.new }
-    ensures has { OnOk result ((n : List ℕ) → opener.now ≡ Some n → HasClause table.now.trees closure.new.clauses (trees_at table.now.trees premises) (tree_at table.now.trees gives)) }
+    ensures has { OnOk result (HasClause table.now.trees closure.new.clauses (trees_at table.now.trees premises.now) (tree_at table.now.trees gives)) }
 {
-    match opener {
-        Some(name) => {
-            let name = name.copy(alloc)?;
-            add(table, closure, Line::Apply(name, premises), gives)
-        }
-        None => Ok(()),
+    let name = f.copy(alloc)?;
+    match numbers_of(alloc, premises) {
+        Ok(numbers) => add(table, closure, Line::Apply(name, numbers), gives),
+        Err(e) => Err(e),
     }
 }
 
-// The same on one number.
-fn open_alone(
+// The same where the symbol can be applied.
+fn open_by(
     table: &Table,
     closure: &mut Closure,
     alloc: Global,
     opener: &Option<Name>,
-    whole: u64,
+    premises: &[u64],
     gives: u64,
 ) -> Result<(), Mem>
     requires closure { IsClosure closure.old }
     requires numbered { AreNumbered table.now.sig table.now.trees closure.old.clauses }
-    requires this { (n : List ℕ) → opener.now ≡ Some n → IsNumbered table.now.sig table.now.trees (record { line = ApplyLine n (whole ∷ []); gives = gives }) }
+    requires this { (n : List ℕ) → opener.now ≡ Some n → IsNumbered table.now.sig table.now.trees (record { line = ApplyLine n premises.now; gives = gives }) }
     ensures closure { IsClosure closure.new }
     ensures numbered { AreNumbered table.now.sig table.now.trees closure.new.clauses }
     ensures adds { Adds closure.old closure.new }
-    ensures has { OnOk result ((n : List ℕ) → opener.now ≡ Some n → HasClause table.now.trees closure.new.clauses (tree_at table.now.trees whole ∷ []) (tree_at table.now.trees gives)) }
+    ensures has { OnOk result ((n : List ℕ) → opener.now ≡ Some n → HasClause table.now.trees closure.new.clauses (trees_at table.now.trees premises.now) (tree_at table.now.trees gives)) }
 {
-    let premises = one(alloc, whole)?;
-    apply_opener(table, closure, alloc, opener, premises, gives)
-}
-
-// The same on two.
-fn open_with(
-    table: &Table,
-    closure: &mut Closure,
-    alloc: Global,
-    opener: &Option<Name>,
-    whole: u64,
-    key: u64,
-    gives: u64,
-) -> Result<(), Mem>
-    requires closure { IsClosure closure.old }
-    requires numbered { AreNumbered table.now.sig table.now.trees closure.old.clauses }
-    requires this { (n : List ℕ) → opener.now ≡ Some n → IsNumbered table.now.sig table.now.trees (record { line = ApplyLine n (whole ∷ key ∷ []); gives = gives }) }
-    ensures closure { IsClosure closure.new }
-    ensures numbered { AreNumbered table.now.sig table.now.trees closure.new.clauses }
-    ensures adds { Adds closure.old closure.new }
-    ensures has { OnOk result ((n : List ℕ) → opener.now ≡ Some n → HasClause table.now.trees closure.new.clauses (tree_at table.now.trees whole ∷ tree_at table.now.trees key ∷ []) (tree_at table.now.trees gives)) }
-{
-    let premises = two(alloc, whole, key)?;
-    apply_opener(table, closure, alloc, opener, premises, gives)
-}
-
-// The clauses that take a pair apart.
-fn open_pair(
-    table: &Table,
-    openers: &Openers,
-    closure: &mut Closure,
-    alloc: Global,
-    n: u64,
-    first: u64,
-    second: u64,
-) -> Result<(), Mem>
-    requires closure { IsClosure closure.old }
-    requires numbered { AreNumbered table.now.sig table.now.trees closure.old.clauses }
-    requires openers { AreOpeners table.now.sig openers.now }
-    requires number { n < length table.now.trees }
-    requires normal { IsNormal (equations table.now.sig) (tree_at table.now.trees n) }
-    requires shape { IsShapeOf table.now.trees (tree_at table.now.trees n) (PairShape first second) }
-    ensures closure { IsClosure closure.new }
-    ensures numbered { AreNumbered table.now.sig table.now.trees closure.new.clauses }
-    ensures adds { Adds closure.old closure.new }
-    ensures has { OnOk result (HaveOpenings table.now.sig table.now.trees closure.new.clauses (tree_at table.now.trees n)) }
-{
-    symbols_reduce_once();
-    open_alone(table, closure, alloc, &openers.first, n, first)?;
-    open_alone(table, closure, alloc, &openers.second, n, second)
-}
-
-// The clause that takes a message from under its key.
-fn open_encrypted(
-    table: &Table,
-    openers: &Openers,
-    closure: &mut Closure,
-    alloc: Global,
-    n: u64,
-    message: u64,
-    key: u64,
-) -> Result<(), Mem>
-    requires closure { IsClosure closure.old }
-    requires numbered { AreNumbered table.now.sig table.now.trees closure.old.clauses }
-    requires openers { AreOpeners table.now.sig openers.now }
-    requires number { n < length table.now.trees }
-    requires normal { IsNormal (equations table.now.sig) (tree_at table.now.trees n) }
-    requires shape { IsShapeOf table.now.trees (tree_at table.now.trees n) (EncryptedShape message key) }
-    ensures closure { IsClosure closure.new }
-    ensures numbered { AreNumbered table.now.sig table.now.trees closure.new.clauses }
-    ensures adds { Adds closure.old closure.new }
-    ensures has { OnOk result (HaveOpenings table.now.sig table.now.trees closure.new.clauses (tree_at table.now.trees n)) }
-{
-    symbols_reduce_once();
-    open_with(table, closure, alloc, &openers.decrypts, n, key, message)
-}
-
-// The clause that takes a message from under a public key.
-fn open_encrypted_to(
-    table: &Table,
-    openers: &Openers,
-    closure: &mut Closure,
-    alloc: Global,
-    n: u64,
-    message: u64,
-    secret: u64,
-) -> Result<(), Mem>
-    requires closure { IsClosure closure.old }
-    requires numbered { AreNumbered table.now.sig table.now.trees closure.old.clauses }
-    requires openers { AreOpeners table.now.sig openers.now }
-    requires number { n < length table.now.trees }
-    requires normal { IsNormal (equations table.now.sig) (tree_at table.now.trees n) }
-    requires shape { IsShapeOf table.now.trees (tree_at table.now.trees n) (EncryptedToShape message secret) }
-    ensures closure { IsClosure closure.new }
-    ensures numbered { AreNumbered table.now.sig table.now.trees closure.new.clauses }
-    ensures adds { Adds closure.old closure.new }
-    ensures has { OnOk result (HaveOpenings table.now.sig table.now.trees closure.new.clauses (tree_at table.now.trees n)) }
-{
-    symbols_reduce_once();
-    open_with(
-        table,
-        closure,
-        alloc,
-        &openers.decrypts_by_secret,
-        n,
-        secret,
-        message,
-    )
-}
-
-// The clause that reads a message that is signed openly.
-fn open_signed(
-    table: &Table,
-    openers: &Openers,
-    closure: &mut Closure,
-    alloc: Global,
-    n: u64,
-    message: u64,
-    key: u64,
-) -> Result<(), Mem>
-    requires closure { IsClosure closure.old }
-    requires numbered { AreNumbered table.now.sig table.now.trees closure.old.clauses }
-    requires openers { AreOpeners table.now.sig openers.now }
-    requires number { n < length table.now.trees }
-    requires normal { IsNormal (equations table.now.sig) (tree_at table.now.trees n) }
-    requires shape { IsShapeOf table.now.trees (tree_at table.now.trees n) (SignedShape message key) }
-    ensures closure { IsClosure closure.new }
-    ensures numbered { AreNumbered table.now.sig table.now.trees closure.new.clauses }
-    ensures adds { Adds closure.old closure.new }
-    ensures has { OnOk result (HaveOpenings table.now.sig table.now.trees closure.new.clauses (tree_at table.now.trees n)) }
-{
-    symbols_reduce_once();
-    open_alone(table, closure, alloc, &openers.reads, n, message)
+    match opener {
+        Some(name) => add_applied(table, closure, alloc, name, premises, gives),
+        None => Ok(()),
+    }
 }
 
 // The clauses that take a term apart.
@@ -251,19 +110,31 @@ fn open_all(
     ensures adds { Adds closure.old closure.new }
     ensures has { OnOk result (HaveOpenings table.now.sig table.now.trees closure.new.clauses (tree_at table.now.trees n)) }
 {
+    symbols_reduce_once();
     match shape_of(table, n) {
-        Shape::Pair { first, second } => open_pair(
-            table, openers, closure, alloc, n, first, second,
+        Shape::Pair { first, second } => {
+            open_by(table, closure, alloc, &openers.first, &[n], first)?;
+            open_by(table, closure, alloc, &openers.second, &[n], second)
+        }
+        Shape::Encrypted { message, key } => open_by(
+            table,
+            closure,
+            alloc,
+            &openers.decrypts,
+            &[n, key],
+            message,
         ),
-        Shape::Encrypted { message, key } => open_encrypted(
-            table, openers, closure, alloc, n, message, key,
+        Shape::EncryptedTo { message, secret } => open_by(
+            table,
+            closure,
+            alloc,
+            &openers.decrypts_by_secret,
+            &[n, secret],
+            message,
         ),
-        Shape::EncryptedTo { message, secret } => open_encrypted_to(
-            table, openers, closure, alloc, n, message, secret,
-        ),
-        Shape::Signed { message, key } => open_signed(
-            table, openers, closure, alloc, n, message, key,
-        ),
+        Shape::Signed { message, key: _ } => {
+            open_by(table, closure, alloc, &openers.reads, &[n], message)
+        }
         Shape::Other => Ok(()),
     }
 }
@@ -292,9 +163,7 @@ fn make_applied(
     if !table.signature().is_public(f) {
         return Ok(());
     }
-    let name = f.copy(alloc)?;
-    let numbers = ks.copy(alloc)?;
-    add(table, closure, Line::Apply(name, numbers), n)
+    add_applied(table, closure, alloc, f, ks.as_slice(), n)
 }
 
 // The clause that makes a term.

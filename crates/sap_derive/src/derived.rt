@@ -36,6 +36,15 @@ pub fn derive(
     ensures none { IfOk result (λ o. IfNone o (¬ IsDeducible sig.now [] entries.now (tree goal.now))) }
 {
     let mut search = Search::new(alloc, sig)?;
-    enter_all(alloc, &mut search, entries)?;
-    search.find(alloc, goal)
+    match enter_all(alloc, &mut search, entries) {
+        Ok(()) => {
+            let found = search.find(alloc, goal);
+            drop(search);
+            found
+        }
+        Err(e) => {
+            drop(search);
+            Err(e)
+        }
+    }
 }

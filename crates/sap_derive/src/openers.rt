@@ -33,6 +33,7 @@ fn opener(
     if sig.is_public(&name) && sig.arity(&name) == Some(count) {
         return Ok(Some(name));
     }
+    drop(name);
     Ok(None)
 }
 

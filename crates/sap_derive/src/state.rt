@@ -71,17 +71,22 @@ impl State {
         ensures entries { IfOk result (λ s. s.entries ≡ []) }
     {
         let table = Table::new(alloc, sig)?;
-        let openers = Openers::of(alloc, sig)?;
-        Ok(State {
-            table,
-            entries: Listing::new(alloc),
-            terms: Listing::new(alloc),
-            brought: 0,
-            given: 0,
-            closure: Closure::new(alloc),
-            openers,
-            ranks: Listing::new(alloc),
-        })
+        match Openers::of(alloc, sig) {
+            Ok(openers) => Ok(State {
+                table,
+                entries: Listing::new(alloc),
+                terms: Listing::new(alloc),
+                brought: 0,
+                given: 0,
+                closure: Closure::new(alloc),
+                openers,
+                ranks: Listing::new(alloc),
+            }),
+            Err(e) => {
+                drop(table);
+                Err(e)
+            }
+        }
     }
 
     // The number of a term, which is among the terms then.

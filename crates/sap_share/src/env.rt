@@ -70,8 +70,14 @@ impl Env {
     pub fn along(alloc: Global, order: &Order) -> Result<Env, Mem>
         ensures { IfOk result (λ e. e ≡ []) }
     {
-        let bound = Items::with_room(alloc, order.len())?;
         let order = order.copy(alloc)?;
+        let bound = match Items::with_room(alloc, order.len()) {
+            Ok(bound) => bound,
+            Err(e) => {
+                drop(order);
+                return Err(e);
+            }
+        };
         Ok(Env {
             bound,
             index: Index::new(alloc),
@@ -109,8 +115,13 @@ impl Env {
         ensures err { OnErr result (self.new ≡ self.old) }
     {
         follow(&mut self.order, self.bound.len(), &bound.var.name);
-        index_many(&self.order, &mut self.index, &self.bound)?;
-        self.bound.push(bound)
+        match index_many(&self.order, &mut self.index, &self.bound) {
+            Err(e) => {
+                drop(bound);
+                Err(e)
+            }
+            Ok(()) => self.bound.push(bound),
+        }
     }
 }
 
@@ -118,13 +129,19 @@ impl Copied for Env {
     fn copy(&self, alloc: Global) -> Result<Env, Mem> {
         let bound = self.bound.copy(alloc)?;
         let mut index = Index::new(alloc);
-        index_many(&None, &mut index, &bound)?;
-        Ok(Env {
-            bound,
-            index,
-            order: None,
-            next: Cell::new(0),
-        })
+        match index_many(&None, &mut index, &bound) {
+            Err(e) => {
+                drop(bound);
+                drop(index);
+                Err(e)
+            }
+            Ok(()) => Ok(Env {
+                bound,
+                index,
+                order: None,
+                next: Cell::new(0),
+            }),
+        }
     }
 }
 

@@ -79,10 +79,11 @@ impl Table {
         }
     }
 
-    // The numbers of the normal forms of terms.
+    /// The same of terms, one by one. Refused, the table may have more numbers than before. It recurses as deep as the terms
+    /// that it is given.
     #[cycle(evaluate)]
     #[tactic(auto, using(crate::proofs::Evaluated::evaluate_laws))]
-    fn evaluate_all(
+    pub fn evaluate_all(
         &mut self,
         alloc: Global,
         env: &Env,

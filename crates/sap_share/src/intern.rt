@@ -1,14 +1,13 @@
 // Nodes with their numbers and the numbers of their normal forms.
-ghost use Rattle.std.specs.Prelude.{◌≡◌, ◌<◌, ◌≤◌, ◌+◌, length, IfOk, OnErr, Some};
+ghost use Rattle.std.specs.Prelude.{◌≡◌, ◌<◌, ◌≤◌, ◌+◌, length, IfOk, OnErr};
 ghost use Rattle.std.specs.List.{AllZip};
 ghost use Rattle.sap_terms.specs.Equations.{equations};
 ghost use Rattle.sap_terms.specs.Normal.{IsNormalForm};
-ghost use Rattle.sap_terms.specs.Signature.{arity_of};
 ghost use Rattle.sap_share.specs.Shared.{tree_at, trees_at, node_tree, AreBelow, StandsBelow, IsHeld, Gives, Came};
 ghost use Rattle.sap_share.specs.code.Forms.{IsFormOf};
 ghost use Rattle.sap_share.specs.code.Inside.{IsNew};
 ghost use Rattle.sap_share.specs.declared.node.Node.TheVariants.{App as OnNumbers};
-ghost use Rattle.sap_share.specs.declared.intern.Form.TheVariants.{Like as LikeNode};
+ghost use Rattle.sap_share.specs.declared.intern.Reduct.TheVariants.{Like as LikeNode};
 
 use crate::side::Side;
 use crate::{Node, Table};
@@ -18,7 +17,7 @@ use std::alloc::Global;
 
 // What a new node's normal form is: the node itself, or what a number stands for, or another node.
 #[derive(Drop)]
-enum Form {
+enum Reduct {
     Itself,
     Old(u64),
     Like(Node),
@@ -40,7 +39,13 @@ impl Table {
     }
 
     // The normal form of a symbol on these, whose normal forms are given.
-    fn form_on(&self, alloc: Global, f: &Name, ks: &Numbers, forms: Numbers) -> Result<Form, Mem>
+    fn reduct_on(
+        &self,
+        alloc: Global,
+        f: &Name,
+        ks: &Numbers,
+        forms: Numbers,
+    ) -> Result<Reduct, Mem>
         requires below { AreBelow (length self.now.trees) ks.now }
         requires forms_below { AreBelow (length self.now.trees) forms }
         requires forms { AllZip (IsNormalForm (equations self.now.sig)) (trees_at self.now.trees ks.now) (trees_at self.now.trees forms) }
@@ -50,34 +55,43 @@ impl Table {
         symbols_reduce_once();
         self.each_has_one_number();
         match self.side(f, &forms) {
-            Side::Part(k) => Ok(Form::Old(k)),
+            Side::Part(k) => {
+                drop(forms);
+                Ok(Reduct::Old(k))
+            }
             Side::Truth => {
+                drop(forms);
                 let name = Name::from_bytes(alloc, b"true")?;
-                Ok(Form::Like(Node::App(name, Numbers::new(alloc))))
+                Ok(Reduct::Like(Node::App(name, Numbers::new(alloc))))
             }
             Side::Nothing => {
                 if *ks == forms {
-                    return Ok(Form::Itself);
+                    drop(forms);
+                    return Ok(Reduct::Itself);
                 }
-                let name = f.copy(alloc)?;
-                Ok(Form::Like(Node::App(name, forms)))
+                match f.copy(alloc) {
+                    Ok(name) => Ok(Reduct::Like(Node::App(name, forms))),
+                    Err(e) => {
+                        drop(forms);
+                        Err(e)
+                    }
+                }
             }
         }
     }
 
     // The normal form of a node.
-    fn form_of(&self, alloc: Global, node: &Node) -> Result<Form, Mem>
+    fn reduct_of(&self, alloc: Global, node: &Node) -> Result<Reduct, Mem>
         requires { StandsBelow (length self.now.trees) node.now }
         ensures { IfOk result (IsFormOf self.now node.now) }
     {
         equality_is_kept();
         leaves_are_normal();
         match node {
-            Node::Public(_) => Ok(Form::Itself),
-            Node::Fresh(_) => Ok(Form::Itself),
+            Node::Public(_) | Node::Fresh(_) => Ok(Reduct::Itself),
             Node::App(f, ks) => {
                 let forms = self.forms_of(alloc, ks)?;
-                self.form_on(alloc, f, ks, forms)
+                self.reduct_on(alloc, f, ks, forms)
             }
         }
     }
@@ -97,27 +111,11 @@ impl Table {
         self.each_is_ground();
         self.each_is_over();
         match self.number_of(&form) {
-            Some(k) => self.add(alloc, node, k),
+            Some(k) => {
+                drop(form);
+                self.add(alloc, node, k)
+            }
             None => self.add_both(alloc, form, node),
-        }
-    }
-
-    // The number of a symbol on numbers: the old one where it is there, else the next.
-    fn intern_applied(&mut self, alloc: Global, f: Name, ks: Numbers) -> Result<u64, Mem>
-        requires below { AreBelow (length self.old.trees) ks }
-        requires held { arity_of self.old.sig f ≡ Some (length ks) }
-        ensures ok { IfOk result (λ k. Gives self.old self.new k (node_tree self.old.trees (OnNumbers f ks))) }
-        ensures came { IfOk result (Came self.old self.new) }
-        ensures err { OnErr result (self.new ≡ self.old) }
-    {
-        let node = Node::App(f, ks);
-        if let Some(k) = self.number_of(&node) {
-            return Ok(k);
-        }
-        match self.form_of(alloc, &node)? {
-            Form::Itself => self.add_own(alloc, node),
-            Form::Old(k) => self.add(alloc, node, k),
-            Form::Like(form) => self.add_like(alloc, form, node),
         }
     }
 
@@ -131,12 +129,20 @@ impl Table {
         ensures few { length self.new.trees ≤ length self.old.trees + 2 }
         ensures err { OnErr result (self.new ≡ self.old) }
     {
-        equality_is_kept();
-        leaves_are_normal();
-        match node {
-            Node::Public(name) => self.put_own(alloc, Node::Public(name)),
-            Node::Fresh(n) => self.put_own(alloc, Node::Fresh(n)),
-            Node::App(f, ks) => self.intern_applied(alloc, f, ks),
+        match self.number_of(&node) {
+            Some(k) => {
+                drop(node);
+                Ok(k)
+            }
+            None => match self.reduct_of(alloc, &node) {
+                Ok(Reduct::Itself) => self.add_own(alloc, node),
+                Ok(Reduct::Old(k)) => self.add(alloc, node, k),
+                Ok(Reduct::Like(form)) => self.add_like(alloc, form, node),
+                Err(e) => {
+                    drop(node);
+                    Err(e)
+                }
+            },
         }
     }
 }

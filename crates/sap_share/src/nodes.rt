@@ -68,6 +68,43 @@ fn number_node(alloc: Global, names: &mut NameMap<u64>, node: &Node, next: u64) 
     }
 }
 
+// Finds memory for one node more, whose name has a number then.
+fn ready(
+    alloc: Global,
+    names: &mut NameMap<u64>,
+    keys: &mut IndexSet<Key>,
+    node: &Node,
+) -> Result<u64, Mem>
+    ensures number { IfOk result (λ k. name_number names.new node.now ≡ Some k) }
+    ensures keeps { KeepsNumbers names.old names.new }
+    ensures keys { keys.new.keys ≡ keys.old.keys }
+    ensures room { OnOk result (0 < spare keys.new) }
+{
+    keys.reserve(1)?;
+    number_node(alloc, names, node, keys.len() as u64)
+}
+
+// Finds memory for two nodes more, whose names have numbers then.
+fn ready_both(
+    alloc: Global,
+    names: &mut NameMap<u64>,
+    keys: &mut IndexSet<Key>,
+    first: &Node,
+    second: &Node,
+) -> Result<(u64, u64), Mem>
+    ensures first { IfOk result (λ p. name_number names.new first.now ≡ Some p.0) }
+    ensures second { IfOk result (λ p. name_number names.new second.now ≡ Some p.1) }
+    ensures keeps { KeepsNumbers names.old names.new }
+    ensures keys { keys.new.keys ≡ keys.old.keys }
+    ensures room { OnOk result (2 ≤ spare keys.new) }
+{
+    keys.reserve(2)?;
+    let next = keys.len() as u64;
+    let name = number_node(alloc, names, first, next)?;
+    let other = number_node(alloc, names, second, next + 1)?;
+    Ok((name, other))
+}
+
 // Puts a key last that isn't there. There is room.
 fn put_key(keys: &mut IndexSet<Key>, key: Key)
     requires new { ¬ Contains keys.old.keys key }
@@ -126,11 +163,16 @@ impl Nodes {
         ensures ok { OnOk result (self.new ≡ self.old ++ node ∷ []) }
         ensures err { OnErr result (self.new ≡ self.old) }
     {
-        let next = self.keys.len() as u64;
-        let name = number_node(alloc, &mut self.names, &node, next)?;
-        self.keys.reserve(1)?;
-        put_key(&mut self.keys, Key { name, node });
-        Ok(())
+        match ready(alloc, &mut self.names, &mut self.keys, &node) {
+            Ok(name) => {
+                put_key(&mut self.keys, Key { name, node });
+                Ok(())
+            }
+            Err(e) => {
+                drop(node);
+                Err(e)
+            }
+        }
     }
 
     // Puts two nodes last that aren't there; refused, neither.
@@ -140,18 +182,21 @@ impl Nodes {
         ensures ok { OnOk result (self.new ≡ (self.old ++ first ∷ []) ++ second ∷ []) }
         ensures err { OnErr result (self.new ≡ self.old) }
     {
-        let next = self.keys.len() as u64;
-        let name = number_node(alloc, &mut self.names, &first, next)?;
-        let other = number_node(alloc, &mut self.names, &second, next + 1)?;
-        self.keys.reserve(2)?;
-        put_key(&mut self.keys, Key { name, node: first });
-        put_key(
-            &mut self.keys,
-            Key {
-                name: other,
-                node: second,
-            },
-        );
-        Ok(())
+        match ready_both(alloc, &mut self.names, &mut self.keys, &first, &second) {
+            Ok((name, other)) => {
+                put_key(&mut self.keys, Key { name, node: first });
+                let key = Key {
+                    name: other,
+                    node: second,
+                };
+                put_key(&mut self.keys, key);
+                Ok(())
+            }
+            Err(e) => {
+                drop(first);
+                drop(second);
+                Err(e)
+            }
+        }
     }
 }

@@ -28,6 +28,7 @@ impl Table {
     {
         equality_is_kept();
         if self.size_of(&node) > most {
+            drop(node);
             return Err(Cut::Large);
         }
         let number = self.put_own(alloc, node)?;
@@ -73,16 +74,24 @@ impl Table {
         symbols_reduce_once();
         match self.side(f, &ks) {
             Side::Part(k) => {
+                drop(ks);
                 if self.size(k) > most {
                     return Err(Cut::Large);
                 }
                 Ok(k)
             }
-            Side::Truth => self.truth_number(alloc, f, &ks, most),
-            Side::Nothing => {
-                let name = f.copy(alloc)?;
-                self.small_number(alloc, Node::App(name, ks), most)
+            Side::Truth => {
+                let number = self.truth_number(alloc, f, &ks, most);
+                drop(ks);
+                number
             }
+            Side::Nothing => match f.copy(alloc) {
+                Ok(name) => self.small_number(alloc, Node::App(name, ks), most),
+                Err(_) => {
+                    drop(ks);
+                    Err(Cut::Mem)
+                }
+            },
         }
     }
 }

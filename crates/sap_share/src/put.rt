@@ -31,16 +31,19 @@ impl Table {
             Term::Fresh(k) => self.intern(alloc, Node::Fresh(*k)),
             Term::App(f, ts) => {
                 let name = f.copy(alloc)?;
-                let ks = self.put_all(alloc, ts)?;
-                self.intern(alloc, Node::App(name, ks))
+                match self.put_all(alloc, ts) {
+                    Ok(ks) => self.intern(alloc, Node::App(name, ks)),
+                    Err(e) => Err(e),
+                }
             }
         }
     }
 
-    // The numbers of ground terms.
+    /// The numbers of ground terms. Refused, the table may have more numbers than before, at most two for each node.
+    /// It recurses as deep as the terms that it is given.
     #[cycle(put)]
     #[tactic(auto, using(crate::proofs::Kept::put_laws))]
-    fn put_all(&mut self, alloc: Global, ts: &TermList) -> Result<Numbers, Mem>
+    pub fn put_all(&mut self, alloc: Global, ts: &TermList) -> Result<Numbers, Mem>
         requires ground { AreGround (trees_of ts.now) }
         requires over { AreOver self.old.sig (trees_of ts.now) }
         ensures trees { IfOk result (λ ks. trees_at self.new.trees ks ≡ ts.now) }
@@ -50,8 +53,10 @@ impl Table {
     {
         let mut ks = Numbers::with_room(alloc, ts.len())?;
         for i in 0..ts.len() {
-            let k = self.put(alloc, ts.at(i))?;
-            ks.push(k)?;
+            match self.put(alloc, ts.at(i)) {
+                Ok(k) => ks.push(k)?,
+                Err(e) => return Err(e),
+            }
         }
         Ok(ks)
     }

@@ -48,8 +48,12 @@ impl Table {
         if !(f.is(b"sdec") && self.signature().has(Builtin::Symmetric)) {
             return None;
         }
-        let (sealed, key) = self.two(ks)?;
-        let (message, own) = self.two_under(b"senc", sealed)?;
+        let Some((sealed, key)) = self.two(ks) else {
+            return None;
+        };
+        let Some((message, own)) = self.two_under(b"senc", sealed) else {
+            return None;
+        };
         if self.same(own, key) {
             Some(message)
         } else {
@@ -68,9 +72,15 @@ impl Table {
         if !(f.is(b"adec") && self.signature().has(Builtin::Asymmetric)) {
             return None;
         }
-        let (sealed, key) = self.two(ks)?;
-        let (message, public) = self.two_under(b"aenc", sealed)?;
-        let own = self.one_under(b"pk", public)?;
+        let Some((sealed, key)) = self.two(ks) else {
+            return None;
+        };
+        let Some((message, public)) = self.two_under(b"aenc", sealed) else {
+            return None;
+        };
+        let Some(own) = self.one_under(b"pk", public) else {
+            return None;
+        };
         if self.same(own, key) {
             Some(message)
         } else {
@@ -89,8 +99,10 @@ impl Table {
         if !self.signature().has(Builtin::RevealingSigning) {
             return None;
         }
-        let (message, _) = self.on_one(b"getMessage", b"revealSign", f, ks)?;
-        Some(message)
+        match self.on_one(b"getMessage", b"revealSign", f, ks) {
+            Some((message, _)) => Some(message),
+            None => None,
+        }
     }
 
     // Whether the outer symbol stands on a signature, which the inner symbol makes, the message that was signed, and the

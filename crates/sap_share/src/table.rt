@@ -162,16 +162,18 @@ impl Table {
         }
     }
 
-    // The terms of these numbers.
+    /// The terms of these numbers, which share their memory with those that the table holds.
     #[tactic(auto, using(crate::proofs::Kept::tree_laws))]
-    fn terms_of(&self, alloc: Global, ks: &Numbers) -> Result<TermList, Mem>
+    pub fn terms_of(&self, alloc: Global, ks: &Numbers) -> Result<TermList, Mem>
         requires { AreBelow (length self.now.trees) ks.now }
         ensures { IfOk result (λ ts. ts ≡ trees_at self.now.trees ks.now) }
     {
         let mut terms = TermList::with_room(alloc, ks.len())?;
         for k in ks.as_slice() {
-            let term = self.term(*k).copy(alloc)?;
-            terms.push(term)?;
+            match self.tree(alloc, *k) {
+                Ok(term) => terms.push(term)?,
+                Err(e) => return Err(e),
+            }
         }
         Ok(terms)
     }
@@ -186,8 +188,10 @@ impl Table {
             Node::Fresh(k) => Ok(Term::Fresh(*k)),
             Node::App(f, ks) => {
                 let name = f.copy(alloc)?;
-                let terms = self.terms_of(alloc, ks)?;
-                Ok(Term::App(name, terms))
+                match self.terms_of(alloc, ks) {
+                    Ok(terms) => Ok(Term::App(name, terms)),
+                    Err(e) => Err(e),
+                }
             }
         }
     }
@@ -202,6 +206,29 @@ impl Table {
         Ok(Row { term, form, size })
     }
 
+    // The same of two nodes whose normal form has this number.
+    fn rows_of(
+        &self,
+        alloc: Global,
+        first: &Node,
+        second: &Node,
+        form: u64,
+    ) -> Result<(Row, Row), Mem>
+        requires first { StandsBelow (length self.now.trees) first.now }
+        requires second { StandsBelow (length self.now.trees) second.now }
+        ensures first { IfOk result (λ p. IsRowOf self.now.trees first.now form p.0) }
+        ensures second { IfOk result (λ p. IsRowOf self.now.trees second.now form p.1) }
+    {
+        let row = self.row_of(alloc, first, form)?;
+        match self.row_of(alloc, second, form) {
+            Ok(other) => Ok((row, other)),
+            Err(e) => {
+                drop(row);
+                Err(e)
+            }
+        }
+    }
+
     /// Gives a new node a number, and remembers its form's, which may be the new one.
     pub(crate) fn add(&mut self, alloc: Global, node: Node, form: u64) -> Result<u64, Mem>
         requires below { StandsBelow (length self.old.trees) node }
@@ -214,11 +241,31 @@ impl Table {
         ensures err { OnErr result (self.new ≡ self.old) }
     {
         let number = self.nodes.len();
-        let row = self.row_of(alloc, &node, form)?;
-        self.rows.reserve(1)?;
-        self.nodes.push(alloc, node)?;
-        put_row(&mut self.rows, row);
-        Ok(number)
+        let row = match self.row_of(alloc, &node, form) {
+            Ok(row) => row,
+            Err(e) => {
+                drop(node);
+                return Err(e);
+            }
+        };
+        match self.rows.reserve(1) {
+            Ok(_) => {}
+            Err(_) => {
+                drop(node);
+                drop(row);
+                return Err(Mem);
+            }
+        }
+        match self.nodes.push(alloc, node) {
+            Ok(()) => {
+                put_row(&mut self.rows, row);
+                Ok(number)
+            }
+            Err(e) => {
+                drop(row);
+                Err(e)
+            }
+        }
     }
 
     /// Gives a new node that is its own normal form a number.
@@ -247,7 +294,10 @@ impl Table {
         ensures err { OnErr result (self.new ≡ self.old) }
     {
         match self.number_of(&node) {
-            Some(k) => Ok(k),
+            Some(k) => {
+                drop(node);
+                Ok(k)
+            }
             None => self.add_own(alloc, node),
         }
     }
@@ -268,12 +318,35 @@ impl Table {
         ensures err { OnErr result (self.new ≡ self.old) }
     {
         let form = self.nodes.len();
-        let first_row = self.row_of(alloc, &first, form)?;
-        let second_row = self.row_of(alloc, &second, form)?;
-        self.rows.reserve(2)?;
-        self.nodes.push_both(alloc, first, second)?;
-        put_row(&mut self.rows, first_row);
-        put_row(&mut self.rows, second_row);
-        Ok(form + 1)
+        let (first_row, second_row) = match self.rows_of(alloc, &first, &second, form) {
+            Ok(rows) => rows,
+            Err(e) => {
+                drop(first);
+                drop(second);
+                return Err(e);
+            }
+        };
+        match self.rows.reserve(2) {
+            Ok(_) => {}
+            Err(_) => {
+                drop(first);
+                drop(second);
+                drop(first_row);
+                drop(second_row);
+                return Err(Mem);
+            }
+        }
+        match self.nodes.push_both(alloc, first, second) {
+            Ok(()) => {
+                put_row(&mut self.rows, first_row);
+                put_row(&mut self.rows, second_row);
+                Ok(form + 1)
+            }
+            Err(e) => {
+                drop(first_row);
+                drop(second_row);
+                Err(e)
+            }
+        }
     }
 }

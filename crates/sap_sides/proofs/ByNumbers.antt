@@ -6,21 +6,18 @@ use Rattle.std.proofs.lemmas.List.{get_or_append_left, map_push}
 use Rattle.std.proofs.lemmas.List.Elements.{All-head, All-tail, All-push, All-weaker}
 use Rattle.sap_terms.specs.Choice.{Choice, instance}
 use Rattle.sap_terms.specs.Equations.{Equations, equations}
-use Rattle.sap_terms.specs.Ground.{IsGround, AreGround}
-use Rattle.sap_terms.specs.Message.{IsOver, AreOver}
 use Rattle.sap_terms.specs.Modulo.{instance_fact, instance_facts, IsFormOfFact, AreFormsOfFacts}
-use Rattle.sap_terms.specs.Normal.{IsNormal, IsNormalForm}
+use Rattle.sap_terms.specs.Normal.{IsNormal}
 use Rattle.sap_terms.specs.Signature.{Sig}
 use Rattle.sap_terms.specs.Subst.{bound_to}
-use Rattle.sap_terms.specs.Tree.{Tree, fresh, trees_of, node_count}
+use Rattle.sap_terms.specs.Tree.{Tree, fresh, node_count}
 use Rattle.sap_terms.specs.View.{tree-term}
 use Rattle.sap_terms.specs.declared.fact.Fact.{Fact}
 use Rattle.sap_terms.specs.declared.limits.TheConstants.{MOST_TERM_NODES}
 use Rattle.sap_terms.specs.declared.var.Var.{Var}
-use Rattle.sap_rewrite.specs.Large.{HasLargeSubterm}
 use Rattle.sap_sides.specs.Messages.{IsFactOver}
 use Rattle.sap_share.specs.Env.{given, IsSmallForm, AreSmallForms, AreBound, bindings_of}
-use Rattle.sap_share.specs.Shared.{Shared, tree_at, trees_at, AreBelow, Keeps}
+use Rattle.sap_share.specs.Shared.{Shared, tree_at, AreBelow, Keeps}
 use Rattle.sap_share.specs.declared.env.Bound.{Bound}
 use Rattle.sap_sides.specs.Forms.{SomeLarge, args_of}
 use Rattle.sap_sides.specs.Messages.{IsGroundFact}
@@ -28,7 +25,7 @@ use Rattle.sap_sides.specs.SharedFacts.{fact_seen, AreFactsBelow}
 use Rattle.sap_sides.specs.declared.shared_fact.SharedFact.{SharedFact}
 use Rattle.sap_sides.proofs.Formed.{AreFormed, formed_none, formed_further, large_at, AreFactsFormed, facts_none, facts_further, fact_large}
 use Rattle.sap_sides.proofs.Lists.{all_at}
-use Rattle.sap_sides.proofs.Kept.{keeps-self, keeps-more, keeps-below, keeps-trees, trees_at-push, shared_kept}
+use Rattle.sap_sides.proofs.Kept.{keeps-self, keeps-more, keeps-below, keeps-trees, shared_kept}
 
 pub small_bound : (e : Equations) (most : ℕ) (ts : List Tree) (env : List Bound) → AreSmallForms e most ts env → AreBound (length ts) env
 small_bound e most ts env h = All-weaker (λ (b : Bound). IsSmallForm e most ts b.id) (λ (b : Bound). b.id < length ts) (λ b x. x.below) env h
@@ -71,16 +68,6 @@ bound_at ts (e ∷ es) v =
 pub given_bound : (ts : List Tree) (env : List Bound) → given ts env ≡ bound_to (bindings_of ts env)
 given_bound ts env = λ i v. bound_at ts env v i
 
-pub ground_at : (σ : Choice) (ts : List Tree) (k : ℕ) (t : Tree) → AreGround (trees_of (map (instance σ) ts)) → slice_get ts k ≡ Some t → IsGround (instance σ t)
-ground_at σ [] k t h e = cc
-ground_at σ (u ∷ us) zero t h e = let is : u ≡ t = cc in subst (λ v. IsGround (instance σ v)) is h.0
-ground_at σ (u ∷ us) (suc k) t h e = ground_at σ us k t h.1 e
-
-pub over_at : (g : Sig) (ts : List Tree) (k : ℕ) (t : Tree) → AreOver g (trees_of ts) → slice_get ts k ≡ Some t → IsOver g t
-over_at g [] k t h e = cc
-over_at g (u ∷ us) zero t h e = let is : u ≡ t = cc in subst (IsOver g) is h.0
-over_at g (u ∷ us) (suc k) t h e = over_at g us k t h.1 e
-
 -- each fact's instance is ground
 pub fact_ground_at : (σ : Choice) (fs : List Fact) (k : ℕ) (f : Fact) → All IsGroundFact (instance_facts σ fs) → slice_get fs k ≡ Some f → IsGroundFact (instance_fact σ f)
 fact_ground_at σ [] k f h e = cc
@@ -90,33 +77,6 @@ fact_ground_at σ (x ∷ xs) (suc k) f h e = fact_ground_at σ xs k f (All-tail 
 module _ (s m : Shared) (env : List Bound) (sm : Keeps s m) (small : AreSmallForms (equations s.sig) MOST_TERM_NODES s.trees env) where
   g_kept : given m.trees env ≡ given s.trees env
   g_kept = given_kept s m env sm (small_bound (equations s.sig) MOST_TERM_NODES s.trees env small)
-
-  pub ground_then : (ts : List Tree) (k : ℕ) (t : Tree) → AreGround (trees_of (map (instance (given s.trees env)) ts)) → slice_get ts k ≡ Some t → IsGround (instance (given m.trees env) t)
-  ground_then ts k t h e = subst (λ (σ : Choice). IsGround (instance σ t)) (sym g_kept) (ground_at (given s.trees env) ts k t h e)
-
-  pub over_then : (ts : List Tree) (k : ℕ) (t : Tree) → AreOver s.sig (trees_of ts) → slice_get ts k ≡ Some t → IsOver m.sig t
-  over_then ts k t h e = subst (λ (g : Sig). IsOver g t) (sym sm.sig) (over_at s.sig ts k t h e)
-
-  -- what is large then was large
-  large_before : (t : Tree) → HasLargeSubterm (equations m.sig) MOST_TERM_NODES (instance (given m.trees env) t) → HasLargeSubterm (equations s.sig) MOST_TERM_NODES (instance (given s.trees env) t)
-  large_before t l = subst (λ (σ : Choice). HasLargeSubterm (equations s.sig) MOST_TERM_NODES (instance σ t)) g_kept (subst (λ (g : Sig). HasLargeSubterm (equations g) MOST_TERM_NODES (instance (given m.trees env) t)) sm.sig l)
-
-  large_then : (t : Tree) → HasLargeSubterm (equations s.sig) MOST_TERM_NODES (instance (given s.trees env) t) → HasLargeSubterm (equations m.sig) MOST_TERM_NODES (instance (given m.trees env) t)
-  large_then t l = subst (λ (g : Sig). HasLargeSubterm (equations g) MOST_TERM_NODES (instance (given m.trees env) t)) (sym sm.sig) (subst (λ (σ : Choice). HasLargeSubterm (equations s.sig) MOST_TERM_NODES (instance σ t)) (sym g_kept) l)
-
-  pub form_large : (ts : List Tree) (k : ℕ) (t : Tree) → slice_get ts k ≡ Some t → HasLargeSubterm (equations m.sig) MOST_TERM_NODES (instance (given m.trees env) t) → SomeLarge s.sig (map (instance (given s.trees env)) ts)
-  form_large ts k t e l = large_at s.sig (given s.trees env) ts k t e (large_before t l)
-
-  -- the forms of the first terms, and one more
-  pub form_more : (t : Shared) (ts : List Tree) (i : ℕ) (u : Tree) (ks more : List ℕ) (k : ℕ) → AreFormed s.sig (map (instance (given s.trees env)) (take i ts)) (trees_at m.trees ks) → AreBelow (length m.trees) ks → Keeps m t → k < length t.trees
-      → IsNormalForm (equations m.sig) (instance (given m.trees env) u) (tree_at t.trees k) → (HasLargeSubterm (equations m.sig) MOST_TERM_NODES (instance (given m.trees env) u) → ⊥) → slice_get ts i ≡ Some u → more ≡ ks ++ k ∷ []
-      → AreFormed s.sig (map (instance (given s.trees env)) (take (i + 1) ts)) (trees_at t.trees more) × AreBelow (length t.trees) more
-  form_more t ts i u ks more k formed below mt low form within at is =
-      let n = tree_at t.trees k in
-      let P : ℕ → Type 0 = λ j. j < length t.trees in
-      let form_s = subst (λ (σ : Choice). IsNormalForm (equations s.sig) (instance σ u) n) g_kept (subst (λ (g : Sig). IsNormalForm (equations g) (instance (given m.trees env) u) n) sm.sig form) in
-      let last : trees_at t.trees more ≡ trees_at m.trees ks ++ n ∷ [] = ap (trees_at t.trees) is ∙ trees_at-push t.trees ks k ∙ ap (λ us. us ++ n ∷ []) (keeps-trees m t ks mt below) in
-      (formed_further s.sig (given s.trees env) ts (trees_at m.trees ks) (trees_at t.trees more) i u n at formed form_s (λ l. within (large_then u l)) last, rw is (All-push P ks k (keeps-below m t ks mt below) low))
 
   some_large_before : (ts : List Tree) → SomeLarge m.sig (map (instance (given m.trees env)) ts) → SomeLarge s.sig (map (instance (given s.trees env)) ts)
   some_large_before ts l = subst (λ (σ : Choice). SomeLarge s.sig (map (instance σ) ts)) g_kept (subst (λ (g : Sig). SomeLarge g (map (instance (given m.trees env)) ts)) sm.sig l)

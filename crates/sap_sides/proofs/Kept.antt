@@ -4,7 +4,10 @@ use Rattle.std.specs.Prelude.{slice_get, Some, All}
 use Rattle.std.proofs.lemmas.List.{append-nil, get_or_append_left, map_push}
 use Rattle.std.proofs.lemmas.List.Elements.{All-head, All-tail, All-nil, All-cons, All-push, All-weaker}
 use Rattle.sap_terms.proofs.PlainLaws.Lists.{take_got}
-use Rattle.sap_terms.specs.Tree.{Tree, fresh}
+use Rattle.sap_terms.specs.Ground.{AreGround}
+use Rattle.sap_terms.specs.Message.{AreOver}
+use Rattle.sap_terms.specs.Signature.{Sig}
+use Rattle.sap_terms.specs.Tree.{Tree, fresh, trees_of}
 use Rattle.sap_terms.specs.View.{tree, term, term-tree}
 use Rattle.sap_terms.specs.declared.binding.Binding.{Binding}
 use Rattle.sap_terms.specs.declared.fact.Fact.{Fact}
@@ -12,6 +15,7 @@ use Rattle.sap_share.specs.Env.{AreBound, bindings_of}
 use Rattle.sap_share.specs.Shared.{Shared, tree_at, trees_at, AreBelow, Keeps, Gives}
 use Rattle.sap_share.specs.declared.env.Bound.{Bound}
 use Rattle.sap_sides.specs.Laws.{SharedFactsStay}
+use Rattle.sap_sides.specs.Messages.{IsSmallMessage}
 use Rattle.sap_sides.specs.SharedFacts.{fact_seen, IsShared, AreShared}
 use Rattle.sap_sides.specs.declared.shared_fact.SharedFact.{SharedFact}
 
@@ -45,24 +49,14 @@ keeps-below s t ks h b = below-up (length s.trees) (length t.trees) ks (keeps-mo
 pub keeps-trees : (s t : Shared) (ks : List ℕ) → Keeps s t → AreBelow (length s.trees) ks → trees_at t.trees ks ≡ trees_at s.trees ks
 keeps-trees s t ks h b = ap (λ us. trees_at us ks) h.trees ∙ trees_at-front s.trees h.added ks b
 
-pub trees_at-push : (ts : List Tree) (ks : List ℕ) (k : ℕ) → trees_at ts (ks ++ k ∷ []) ≡ trees_at ts ks ++ tree_at ts k ∷ []
-trees_at-push ts [] k = refl
-trees_at-push ts (j ∷ js) k = ap (λ us. tree_at ts j ∷ us) (trees_at-push ts js k)
+-- small messages are ground, and over the signature
+pub messages_ground : (g : Sig) (ts : List Tree) → All (IsSmallMessage g) ts → AreGround (trees_of ts)
+messages_ground g [] h = tt
+messages_ground g (t ∷ ts) h = ((All-head (IsSmallMessage g) t ts h).message.ground, messages_ground g ts (All-tail (IsSmallMessage g) t ts h))
 
--- numbers of the first trees of a list, and one more
-pub put_more : (s t : Shared) (ts : List Tree) (i : ℕ) (u : Tree) (ks more : List ℕ) (k : ℕ) → trees_at s.trees ks ≡ take i ts → AreBelow (length s.trees) ks → Gives s t k u → slice_get ts i ≡ Some u → more ≡ ks ++ k ∷ []
-    → (trees_at t.trees more ≡ take (i + 1) ts) × AreBelow (length t.trees) more
-put_more s t ts i u ks more k trees below gives at is =
-    let P : ℕ → Type 0 = λ j. j < length t.trees in
-    rw is (
-      trees_at-push t.trees ks k ∙ ap (λ us. us ++ tree_at t.trees k ∷ []) (keeps-trees s t ks gives.keeps below ∙ trees) ∙ ap (λ v. take i ts ++ v ∷ []) gives.tree ∙ sym (take_got ts i u at),
-      All-push P ks k (keeps-below s t ks gives.keeps below) gives.below,
-    )
-
--- trees of the first numbers of a list, and one more
-pub tree_more : (ts : List Tree) (ks : List ℕ) (i k : ℕ) (us more : List Tree) (u : Tree) → us ≡ trees_at ts (take i ks) → slice_get ks i ≡ Some k → u ≡ tree_at ts k → more ≡ us ++ u ∷ [] → more ≡ trees_at ts (take (i + 1) ks)
-tree_more ts ks i k us more u h at is m =
-    m ∙ (λ j. h j ++ is j ∷ []) ∙ sym (ap (trees_at ts) (take_got ks i k at) ∙ trees_at-push ts (take i ks) k)
+pub messages_over : (g : Sig) (ts : List Tree) → All (IsSmallMessage g) ts → AreOver g (trees_of ts)
+messages_over g [] h = tt
+messages_over g (t ∷ ts) h = ((All-head (IsSmallMessage g) t ts h).message.over, messages_over g ts (All-tail (IsSmallMessage g) t ts h))
 
 -- a fact stays what it is while the table grows
 pub keeps-fact : (s t : Shared) (f : SharedFact) → Keeps s t → AreBelow (length s.trees) f.args → fact_seen t.trees f ≡ fact_seen s.trees f
@@ -116,5 +110,3 @@ pub stays : SharedFactsStay
 stays s t f h b = (keeps-fact s t f h b, keeps-below s t f.args h b)
 
 pub ruleset kept_laws = (keeps-self, keeps-both, shared_none)
-
-pub ruleset tree_laws = (trees_at-push)

@@ -1,15 +1,10 @@
 // Normal forms of facts by numbers, and the sides of a rule.
 ghost use Rattle.std.specs.Prelude.{◌<◌, length, map, All, IfOk, OnOk, IsErrOf};
-ghost use Rattle.std.specs.List.{AllZip};
 ghost use Rattle.sap_terms.specs.Choice.{instance};
 ghost use Rattle.sap_terms.specs.Equations.{equations};
-ghost use Rattle.sap_terms.specs.Ground.{AreGround};
-ghost use Rattle.sap_terms.specs.Message.{AreOver};
 ghost use Rattle.sap_terms.specs.Modulo.{instance_fact, instance_facts, IsFormOfFact, AreFormsOfFacts};
-ghost use Rattle.sap_terms.specs.Normal.{IsNormalForm};
-ghost use Rattle.sap_terms.specs.Tree.{trees_of};
 ghost use Rattle.sap_share.specs.Env.{given, AreSmallForms};
-ghost use Rattle.sap_share.specs.Shared.{trees_at, AreBelow, Keeps};
+ghost use Rattle.sap_share.specs.Shared.{AreBelow, Keeps};
 ghost use Rattle.sap_sides.specs.Forms.{SomeLarge, args_of, AreSides, HasLargeSide};
 ghost use Rattle.sap_sides.specs.Messages.{IsFactOver, IsGroundFact};
 ghost use Rattle.sap_sides.specs.SharedFacts.{fact_seen, AreFactsBelow};
@@ -18,7 +13,7 @@ use crate::SharedFact;
 use crate::shared_fact::{built_facts, push_fact};
 use sap_rewrite::Cut;
 use sap_share::{Env, Table};
-use sap_terms::{Copied, Fact, FactList, MOST_TERM_NODES, Mem, Numbers, TermList};
+use sap_terms::{Copied, Fact, FactList, MOST_TERM_NODES};
 use std::alloc::Global;
 
 /// What a rule shows, and what it adds, with numbers for its arguments.
@@ -28,28 +23,8 @@ pub struct Sides {
     pub right: Vec<SharedFact>,
 }
 
-// The numbers of the normal forms of these terms under what is bound; Large where that of a subterm has more than 256 nodes.
-// Refused, there may be more numbers than before.
-#[tactic(auto, using(crate::proofs::ByNumbers::side_laws))]
-fn form_args(table: &mut Table, alloc: Global, env: &Env, ts: &TermList) -> Result<Numbers, Cut>
-    requires env { AreSmallForms (equations table.old.sig) MOST_TERM_NODES table.old.trees env.now }
-    requires ground { AreGround (trees_of (map (instance (given table.old.trees env.now)) ts.now)) }
-    requires over { AreOver table.old.sig (trees_of ts.now) }
-    ensures below { IfOk result (AreBelow (length table.new.trees)) }
-    ensures forms { IfOk result (λ ks. AllZip (IsNormalForm (equations table.old.sig)) (map (instance (given table.old.trees env.now)) ts.now) (trees_at table.new.trees ks)) }
-    ensures within { OnOk result (SomeLarge table.old.sig (map (instance (given table.old.trees env.now)) ts.now) → ⊥) }
-    ensures large { IsErrOf result Cut.Large → SomeLarge table.old.sig (map (instance (given table.old.trees env.now)) ts.now) }
-    ensures keeps { Keeps table.old table.new }
-{
-    let mut ks = Numbers::new(alloc);
-    for i in 0..ts.len() {
-        let k = table.evaluate(alloc, env, ts.at(i), MOST_TERM_NODES)?;
-        ks.push(k)?;
-    }
-    Ok(ks)
-}
-
-// The same of a fact.
+// The normal form of a fact under what is bound, with numbers for its arguments; Large where that of a subterm has more than
+// 256 nodes. Refused, there may be more numbers than before.
 fn form_fact(table: &mut Table, alloc: Global, env: &Env, f: &Fact) -> Result<SharedFact, Cut>
     requires env { AreSmallForms (equations table.old.sig) MOST_TERM_NODES table.old.trees env.now }
     requires ground { IsGroundFact (instance_fact (given table.old.trees env.now) f.now) }
@@ -60,14 +35,18 @@ fn form_fact(table: &mut Table, alloc: Global, env: &Env, f: &Fact) -> Result<Sh
     ensures large { IsErrOf result Cut.Large → SomeLarge table.old.sig (map (instance (given table.old.trees env.now)) f.now.args) }
     ensures keeps { Keeps table.old table.new }
 {
-    let args = form_args(table, alloc, env, &f.args)?;
     let name = f.name.copy(alloc)?;
-    let persistent = f.persistent;
-    Ok(SharedFact {
-        name,
-        persistent,
-        args,
-    })
+    match table.evaluate_all(alloc, env, &f.args, MOST_TERM_NODES) {
+        Ok(args) => Ok(SharedFact {
+            name,
+            persistent: f.persistent,
+            args,
+        }),
+        Err(cut) => {
+            drop(name);
+            Err(cut)
+        }
+    }
 }
 
 /// The normal forms of these facts under what is bound, with numbers for their arguments; Large where that of a subterm
@@ -91,8 +70,10 @@ pub fn form_facts(
 {
     let mut shared = Vec::new(alloc);
     for k in 0..fs.len() {
-        let f = form_fact(table, alloc, env, fs.at(k))?;
-        push_fact(&mut shared, f)?;
+        match form_fact(table, alloc, env, fs.at(k)) {
+            Ok(f) => push_fact(&mut shared, f)?,
+            Err(cut) => return Err(cut),
+        }
     }
     Ok(shared)
 }
@@ -132,6 +113,11 @@ pub fn form_sides(
     ensures keeps { Keeps table.old table.new }
 {
     let acts = form_acts(table, alloc, env, acts)?;
-    let right = form_facts(table, alloc, env, right)?;
-    Ok(Sides { acts, right })
+    match form_facts(table, alloc, env, right) {
+        Ok(right) => Ok(Sides { acts, right }),
+        Err(cut) => {
+            drop(acts);
+            Err(cut)
+        }
+    }
 }

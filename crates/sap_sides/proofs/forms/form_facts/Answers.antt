@@ -1,4 +1,4 @@
-use Rattle.std.proofs.Common.{◌≡◌, List, length, map, rules, subst, arith}
+use Rattle.std.proofs.Common.{◌≡◌, List, length, map, subst, arith}
 use Rattle.sap_terms.specs.declared.fact.Fact.{Fact}
 use Rattle.sap_terms.specs.declared.limits.TheConstants.{MOST_TERM_NODES}
 use Rattle.sap_share.specs.Env.{given}
@@ -17,26 +17,26 @@ pub form_fact-requires-clause-over : goal.form_fact-requires-clause-over
 form_fact-requires-clause-over c =
     fact_over_then c.args.table.now c.loop-k.table c.args.env.now c.loop-k.invariant.keeps c.requires.env c.args.fs.now c.loop-k.k c.at.result.now c.requires.over c.at.ensures
 
-pub returns-in_err-f-clause-large : goal.returns-in_err-f-clause-large
-returns-in_err-f-clause-large c = λ i.
-    fact_large_before c.args.table.now c.loop-k.table c.args.env.now c.loop-k.invariant.keeps c.requires.env c.args.fs.now c.loop-k.k c.at.result.now c.at.ensures (c.in_err-f.ensures.large (search (rules, c.from_residual.ensures, i)))
+pub returns-in-Err-clause-large : goal.returns-in-Err-clause-large
+returns-in-Err-clause-large c = λ i.
+    fact_large_before c.args.table.now c.loop-k.table c.args.env.now c.loop-k.invariant.keeps c.requires.env c.args.fs.now c.loop-k.k c.at.result.now c.at.ensures (c.in-Err.ensures.large (cc i))
 
 pub loop-k-preserved : goal.loop-k-preserved
 loop-k-preserved c =
     let h = c.loop-k.invariant in
-    let x = c.in_ok-f.ensures in
-    let q = facts_more c.args.table.now c.loop-k.table c.args.env.now h.keeps c.requires.env c.form_fact.new.table c.args.fs.now c.loop-k.k c.at.result.now c.loop-k.shared.items c.push_fact.new.shared.items c.in_ok-f.f h.formed h.below x.keeps x.below x.form x.within c.at.ensures c.in_ok-push_fact.ensures in
+    let x = c.in-Ok.ensures in
+    let q = facts_more c.args.table.now c.loop-k.table c.args.env.now h.keeps c.requires.env c.form_fact.new.table c.args.fs.now c.loop-k.k c.at.result.now c.loop-k.shared.items c.push_fact.new.shared.items c.in-Ok.f h.formed h.below x.keeps x.below x.form x.within c.at.ensures c.in_ok-push_fact-in-Ok.ensures in
     record { formed = q.0; below = q.1; keeps = keeps-both c.args.table.now c.loop-k.table c.form_fact.new.table h.keeps x.keeps }
 
 pub form_fact-requires-clause-env : goal.form_fact-requires-clause-env
 form_fact-requires-clause-env c =
     forms_kept MOST_TERM_NODES c.args.table.now c.loop-k.table c.args.env.now c.loop-k.invariant.keeps c.requires.env
 
-pub returns-in_err-f-clause-keeps : goal.returns-in_err-f-clause-keeps
-returns-in_err-f-clause-keeps c = keeps-both c.args.table.now c.loop-k.table c.form_fact.new.table c.loop-k.invariant.keeps c.in_err-f.ensures.keeps
+pub returns-in-Err-clause-keeps : goal.returns-in-Err-clause-keeps
+returns-in-Err-clause-keeps c = keeps-both c.args.table.now c.loop-k.table c.form_fact.new.table c.loop-k.invariant.keeps c.in-Err.ensures.keeps
 
-pub returns-in_err-push_fact-clause-keeps : goal.returns-in_err-push_fact-clause-keeps
-returns-in_err-push_fact-clause-keeps c = keeps-both c.args.table.now c.loop-k.table c.form_fact.new.table c.loop-k.invariant.keeps c.in_ok-f.ensures.keeps
+pub returns-in_err-push_fact-in-Ok-clause-keeps : goal.returns-in_err-push_fact-in-Ok-clause-keeps
+returns-in_err-push_fact-in-Ok-clause-keeps c = keeps-both c.args.table.now c.loop-k.table c.form_fact.new.table c.loop-k.invariant.keeps c.in-Ok.ensures.keeps
 
 pub returns-clause-forms : goal.returns-clause-forms
 returns-clause-forms c =

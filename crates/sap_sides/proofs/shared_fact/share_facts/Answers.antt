@@ -11,8 +11,8 @@ pub loop-k-preserved : goal.loop-k-preserved
 loop-k-preserved c =
     let h = c.loop-k.invariant in
     record {
-      shared = share_more c.loop-k.table c.share_fact.new.table c.args.fs.now c.loop-k.k c.at.result.now c.loop-k.shared.items c.push_fact.new.shared.items c.in_ok-f.f h.shared c.in_ok-f.ensures.keeps c.in_ok-f.ensures.shared c.at.ensures c.in_ok-push_fact.ensures;
-      keeps = keeps-both c.args.table.now c.loop-k.table c.share_fact.new.table h.keeps c.in_ok-f.ensures.keeps;
+      shared = share_more c.loop-k.table c.share_fact.new.table c.args.fs.now c.loop-k.k c.at.result.now c.loop-k.shared.items c.push_fact.new.shared.items c.in-Ok.f h.shared c.in-Ok.ensures.keeps c.in-Ok.ensures.shared c.at.ensures c.in_ok-push_fact-in-Ok.ensures;
+      keeps = keeps-both c.args.table.now c.loop-k.table c.share_fact.new.table h.keeps c.in-Ok.ensures.keeps;
     }
 
 pub share_fact-requires : goal.share_fact-requires
@@ -20,11 +20,11 @@ share_fact-requires c =
     let message = all_at (IsSmallMessageFact c.args.table.now.sig) c.args.fs.now c.loop-k.k c.at.result.now c.requires c.at.ensures in
     subst (λ (g : Sig). IsSmallMessageFact g c.at.result.now) (sym c.loop-k.invariant.keeps.sig) message
 
-pub returns-in_err-f-clause-keeps : goal.returns-in_err-f-clause-keeps
-returns-in_err-f-clause-keeps c = keeps-both c.args.table.now c.loop-k.table c.share_fact.new.table c.loop-k.invariant.keeps c.in_err-f.ensures.keeps
+pub returns-in-Err-clause-keeps : goal.returns-in-Err-clause-keeps
+returns-in-Err-clause-keeps c = keeps-both c.args.table.now c.loop-k.table c.share_fact.new.table c.loop-k.invariant.keeps c.in-Err.ensures.keeps
 
-pub returns-in_err-push_fact-clause-keeps : goal.returns-in_err-push_fact-clause-keeps
-returns-in_err-push_fact-clause-keeps c = keeps-both c.args.table.now c.loop-k.table c.share_fact.new.table c.loop-k.invariant.keeps c.in_ok-f.ensures.keeps
+pub returns-in_err-push_fact-in-Ok-clause-keeps : goal.returns-in_err-push_fact-in-Ok-clause-keeps
+returns-in_err-push_fact-in-Ok-clause-keeps c = keeps-both c.args.table.now c.loop-k.table c.share_fact.new.table c.loop-k.invariant.keeps c.in-Ok.ensures.keeps
 
 pub returns-clause-shared : goal.returns-clause-shared
 returns-clause-shared c =

@@ -7,10 +7,10 @@ use Rattle.sap_share.proofs.Kept.{ground_at, over_at, held_over, put_more, keeps
 use Rattle.sap_share.proofs.Came.{few_more, few_of_all, few_one_more}
 use Rattle.sap_share.proofs.table.Table.+put.Goals as goal
 
-pub put-intern-requires-in-App-clause-held : goal.put-intern-requires-in-App-clause-held
-put-intern-requires-in-App-clause-held t c =
+pub put-intern-requires-in-Ok-clause-held : goal.put-intern-requires-in-Ok-clause-held
+put-intern-requires-in-Ok-clause-held t c =
     let over = subst (λ (u : Term). IsOver c.args.self.now.sig (tree u)) c.in-App.is c.requires.over in
-    held_over c.args.self.now c.put_all.new.self c.in-App.f c.in_ok-name-in-App.name c.in-App.ts c.in_ok-ks-in-App.ks over c.in_ok-ks-in-App.ensures.keeps c.in_ok-name-in-App.ensures c.in_ok-ks-in-App.ensures.trees
+    held_over c.args.self.now c.put_all.new.self c.in-App.f c.in_ok-name-in-App.name c.in-App.ts c.in-Ok.ks over c.in-Ok.ensures.keeps c.in_ok-name-in-App.ensures c.in-Ok.ensures.trees
 
 pub put_all-put-requires : goal.put_all-put-requires
 put_all-put-requires t c =
@@ -22,12 +22,12 @@ put_all-put-requires t c =
 pub put_all-loop-i-preserved : goal.put_all-loop-i-preserved
 put_all-loop-i-preserved t c =
     let h = c.loop-i.invariant in
-    let m = put_more c.loop-i.self c.put.new.self c.args.ts.now c.loop-i.i (tree c.at.result.now) c.loop-i.ks c.push.new.self c.in_ok-k.k h.trees h.below c.in_ok-k.ensures.gives c.at.ensures.got c.in_ok-push.ensures.ok in
+    let m = put_more c.loop-i.self c.put.new.self c.args.ts.now c.loop-i.i (tree c.at.result.now) c.loop-i.ks c.push.new.self c.in-Ok.k h.trees h.below c.in-Ok.ensures.gives c.at.ensures.got c.in_ok-push-in-Ok.ensures.ok in
     record {
       trees = m.0;
       below = m.1;
-      keeps = keeps-both c.args.self.now c.loop-i.self c.put.new.self h.keeps c.in_ok-k.ensures.keeps;
-      few = few_more c.args.ts.now c.loop-i.i (length c.args.self.now.trees) (length c.loop-i.self.trees) (length c.put.new.self.trees) (tree c.at.result.now) c.at.ensures.got h.few c.in_ok-k.ensures.few;
+      keeps = keeps-both c.args.self.now c.loop-i.self c.put.new.self h.keeps c.in-Ok.ensures.keeps;
+      few = few_more c.args.ts.now c.loop-i.i (length c.args.self.now.trees) (length c.loop-i.self.trees) (length c.put.new.self.trees) (tree c.at.result.now) c.at.ensures.got h.few c.in-Ok.ensures.few;
     }
 
 pub put-returns-in_err-name-in-Public-clause-keeps : goal.put-returns-in_err-name-in-Public-clause-keeps
@@ -36,11 +36,11 @@ put-returns-in_err-name-in-Public-clause-keeps t c = keeps-self c.args.self.now
 pub put-returns-in_err-name-in-App-clause-keeps : goal.put-returns-in_err-name-in-App-clause-keeps
 put-returns-in_err-name-in-App-clause-keeps t c = keeps-self c.args.self.now
 
-pub put-returns-in_err-ks-in-App-clause-keeps : goal.put-returns-in_err-ks-in-App-clause-keeps
-put-returns-in_err-ks-in-App-clause-keeps t c = c.in_err-ks-in-App.ensures.keeps
+pub put-returns-in-Err-clause-keeps : goal.put-returns-in-Err-clause-keeps
+put-returns-in-Err-clause-keeps t c = c.in-Err.ensures.keeps
 
-pub put-intern-requires-in-App-clause-below : goal.put-intern-requires-in-App-clause-below
-put-intern-requires-in-App-clause-below t c = c.in_ok-ks-in-App.ensures.below
+pub put-intern-requires-in-Ok-clause-below : goal.put-intern-requires-in-Ok-clause-below
+put-intern-requires-in-Ok-clause-below t c = c.in-Ok.ensures.below
 
 pub put-returns-in_ok-name-in-Public-clause-gives : goal.put-returns-in_ok-name-in-Public-clause-gives
 put-returns-in_ok-name-in-Public-clause-gives t c = rw (ap tree c.in-Public.is ∙ ap public (sym c.in_ok-name-in-Public.ensures)) c.intern.ensures.ok
@@ -54,13 +54,13 @@ put-returns-in-Fresh-clause-gives t c = rw (ap tree c.in-Fresh.is) c.intern-in-F
 pub put-returns-in-Fresh-clause-keeps : goal.put-returns-in-Fresh-clause-keeps
 put-returns-in-Fresh-clause-keeps t c = numbered_keeps c.args.self.now c.intern-in-Fresh.new.self _ c.intern-in-Fresh.result c.intern-in-Fresh.ensures.ok c.intern-in-Fresh.ensures.err
 
-pub put-returns-in_ok-ks-in-App-clause-gives : goal.put-returns-in_ok-ks-in-App-clause-gives
-put-returns-in_ok-ks-in-App-clause-gives t c =
-    rw (ap tree c.in-App.is) (applied_given c.args.self.now c.put_all.new.self c.intern-in-App.new.self c.in-App.f c.in_ok-name-in-App.name c.in-App.ts c.in_ok-ks-in-App.ks c.in_ok-ks-in-App.ensures.keeps c.in_ok-name-in-App.ensures c.in_ok-ks-in-App.ensures.trees c.intern-in-App.result c.intern-in-App.ensures.ok)
+pub put-returns-in-Ok-clause-gives : goal.put-returns-in-Ok-clause-gives
+put-returns-in-Ok-clause-gives t c =
+    rw (ap tree c.in-App.is) (applied_given c.args.self.now c.put_all.new.self c.intern-in-Ok.new.self c.in-App.f c.in_ok-name-in-App.name c.in-App.ts c.in-Ok.ks c.in-Ok.ensures.keeps c.in_ok-name-in-App.ensures c.in-Ok.ensures.trees c.intern-in-Ok.result c.intern-in-Ok.ensures.ok)
 
-pub put-returns-in_ok-ks-in-App-clause-keeps : goal.put-returns-in_ok-ks-in-App-clause-keeps
-put-returns-in_ok-ks-in-App-clause-keeps t c =
-    keeps-both c.args.self.now c.put_all.new.self c.intern-in-App.new.self c.in_ok-ks-in-App.ensures.keeps (numbered_keeps c.put_all.new.self c.intern-in-App.new.self _ c.intern-in-App.result c.intern-in-App.ensures.ok c.intern-in-App.ensures.err)
+pub put-returns-in-Ok-clause-keeps : goal.put-returns-in-Ok-clause-keeps
+put-returns-in-Ok-clause-keeps t c =
+    keeps-both c.args.self.now c.put_all.new.self c.intern-in-Ok.new.self c.in-Ok.ensures.keeps (numbered_keeps c.put_all.new.self c.intern-in-Ok.new.self _ c.intern-in-Ok.result c.intern-in-Ok.ensures.ok c.intern-in-Ok.ensures.err)
 
 pub put_all-returns-in_err-ks-clause-keeps : goal.put_all-returns-in_err-ks-clause-keeps
 put_all-returns-in_err-ks-clause-keeps t c = keeps-self c.args.self.now
@@ -68,19 +68,19 @@ put_all-returns-in_err-ks-clause-keeps t c = keeps-self c.args.self.now
 pub put_all-loop-i-init : goal.put_all-loop-i-init
 put_all-loop-i-init t c = record { trees = search rules; below = search rules; keeps = keeps-self c.args.self.now; few = omega arith }
 
-pub put_all-returns-in_err-k-clause-keeps : goal.put_all-returns-in_err-k-clause-keeps
-put_all-returns-in_err-k-clause-keeps t c = keeps-both c.args.self.now c.loop-i.self c.put.new.self c.loop-i.invariant.keeps c.in_err-k.ensures.keeps
+pub put_all-returns-in-Err-clause-keeps : goal.put_all-returns-in-Err-clause-keeps
+put_all-returns-in-Err-clause-keeps t c = keeps-both c.args.self.now c.loop-i.self c.put.new.self c.loop-i.invariant.keeps c.in-Err.ensures.keeps
 
-pub put_all-returns-in_err-push-clause-keeps : goal.put_all-returns-in_err-push-clause-keeps
-put_all-returns-in_err-push-clause-keeps t c = keeps-both c.args.self.now c.loop-i.self c.put.new.self c.loop-i.invariant.keeps c.in_ok-k.ensures.keeps
+pub put_all-returns-in_err-push-in-Ok-clause-keeps : goal.put_all-returns-in_err-push-in-Ok-clause-keeps
+put_all-returns-in_err-push-in-Ok-clause-keeps t c = keeps-both c.args.self.now c.loop-i.self c.put.new.self c.loop-i.invariant.keeps c.in-Ok.ensures.keeps
 
-pub put_all-returns-in_err-k-clause-few : goal.put_all-returns-in_err-k-clause-few
-put_all-returns-in_err-k-clause-few t c =
-    few_one_more c.args.ts.now c.loop-i.i (length c.args.self.now.trees) (length c.loop-i.self.trees) (length c.put.new.self.trees) (tree c.at.result.now) c.at.ensures.got c.loop-i.invariant.few c.in_err-k.ensures.few
+pub put_all-returns-in-Err-clause-few : goal.put_all-returns-in-Err-clause-few
+put_all-returns-in-Err-clause-few t c =
+    few_one_more c.args.ts.now c.loop-i.i (length c.args.self.now.trees) (length c.loop-i.self.trees) (length c.put.new.self.trees) (tree c.at.result.now) c.at.ensures.got c.loop-i.invariant.few c.in-Err.ensures.few
 
-pub put_all-returns-in_err-push-clause-few : goal.put_all-returns-in_err-push-clause-few
-put_all-returns-in_err-push-clause-few t c =
-    few_one_more c.args.ts.now c.loop-i.i (length c.args.self.now.trees) (length c.loop-i.self.trees) (length c.put.new.self.trees) (tree c.at.result.now) c.at.ensures.got c.loop-i.invariant.few c.in_ok-k.ensures.few
+pub put_all-returns-in_err-push-in-Ok-clause-few : goal.put_all-returns-in_err-push-in-Ok-clause-few
+put_all-returns-in_err-push-in-Ok-clause-few t c =
+    few_one_more c.args.ts.now c.loop-i.i (length c.args.self.now.trees) (length c.loop-i.self.trees) (length c.put.new.self.trees) (tree c.at.result.now) c.at.ensures.got c.loop-i.invariant.few c.in-Ok.ensures.few
 
 pub put_all-returns-clause-few : goal.put_all-returns-clause-few
 put_all-returns-clause-few t c = few_of_all c.args.ts.now c.loop-i.i (length c.args.self.now.trees) (length c.loop-i.self.trees) c.loop-i.invariant.few
@@ -91,11 +91,11 @@ put-returns-in_ok-name-in-Public-clause-few t c = let n = c.intern.ensures.few i
 pub put-returns-in-Fresh-clause-few : goal.put-returns-in-Fresh-clause-few
 put-returns-in-Fresh-clause-few t c = let n = c.intern-in-Fresh.ensures.few in rw (ap tree c.in-Fresh.is) (omega (arith, n))
 
-pub put-returns-in_err-ks-in-App-clause-few : goal.put-returns-in_err-ks-in-App-clause-few
-put-returns-in_err-ks-in-App-clause-few t c = let n = c.in_err-ks-in-App.ensures.few in rw (ap tree c.in-App.is) (omega (arith, n))
+pub put-returns-in-Err-clause-few : goal.put-returns-in-Err-clause-few
+put-returns-in-Err-clause-few t c = let n = c.in-Err.ensures.few in rw (ap tree c.in-App.is) (omega (arith, n))
 
-pub put-returns-in_ok-ks-in-App-clause-few : goal.put-returns-in_ok-ks-in-App-clause-few
-put-returns-in_ok-ks-in-App-clause-few t c =
-    let n = c.in_ok-ks-in-App.ensures.few in
-    let m = c.intern-in-App.ensures.few in
+pub put-returns-in-Ok-clause-few : goal.put-returns-in-Ok-clause-few
+put-returns-in-Ok-clause-few t c =
+    let n = c.in-Ok.ensures.few in
+    let m = c.intern-in-Ok.ensures.few in
     rw (ap tree c.in-App.is) (omega (arith, n, m))

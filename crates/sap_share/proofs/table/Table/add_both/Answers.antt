@@ -12,18 +12,18 @@ push_both-requires-clause-second c =
     let other = subst (λ (s : Shared). node_tree s.trees c.args.first ≡ node_tree s.trees c.args.second → ⊥) (sym c.self.view_is) c.requires.other in
     new_after a.sig a.nodes (trees_in a.rows.items) (forms_in a.rows.items) (sizes_in a.rows.items) c.self.invariant c.args.first c.args.second new other
 
-pub invariant_of-self-2 : goal.invariant_of-self-2
-invariant_of-self-2 c =
+pub invariant_of-self-in-Ok-push_both : goal.invariant_of-self-in-Ok-push_both
+invariant_of-self-in-Ok-push_both c =
     let a = c.self.inside in
     let r = c.requires in
-    rw (c.in_ok-push_both.ensures.ok, c.put_row-2.ensures.rows, c.put_row.ensures.rows, c.reserve.ensures.items)
+    rw (c.in-Ok-push_both.ensures.ok, c.put_row-in-Ok-push_both.ensures.rows, c.put_row.ensures.rows, c.reserve.ensures.items)
     (pushed_both a.sig a.nodes a.rows.items c.self.invariant c.args.self.now c.self.view_is c.args.first c.args.second r.below r.held r.new r.normal r.second_below r.second_held r.second_new r.other r.form
-    c.len-form.result (c.len-form.ensures ∙ sym c.self.invariant.trees_count ∙ ap (λ (v : Shared). length v.trees) c.self.view_is) c.in_ok-first_row.first_row c.in_ok-first_row.ensures c.in_ok-second_row.second_row c.in_ok-second_row.ensures)
+    c.len-form.result (c.len-form.ensures ∙ sym c.self.invariant.trees_count ∙ ap (λ (v : Shared). length v.trees) c.self.view_is) c.in-Ok.rows.0 c.in-Ok.ensures.first c.in-Ok.rows.1 c.in-Ok.ensures.second)
 
-pub returns-clause-ok : goal.returns-clause-ok
-returns-clause-ok c =
+pub returns-in-Ok-push_both-clause-ok : goal.returns-in-Ok-push_both-clause-ok
+returns-in-Ok-push_both-clause-ok c =
     let a = c.self.inside in
     let r = c.requires in
-    rw (c.put_row-2.ensures.rows, c.put_row.ensures.rows, c.reserve.ensures.items)
+    rw (c.put_row-in-Ok-push_both.ensures.rows, c.put_row.ensures.rows, c.reserve.ensures.items)
     (seen_both a.sig a.nodes a.rows.items c.self.invariant c.args.self.now c.self.view_is c.args.first c.args.second r.below r.held r.new r.normal r.second_below r.second_held r.second_new r.other r.form
-    c.len-form.result (c.len-form.ensures ∙ sym c.self.invariant.trees_count ∙ ap (λ (v : Shared). length v.trees) c.self.view_is) c.in_ok-first_row.first_row c.in_ok-first_row.ensures c.in_ok-second_row.second_row c.in_ok-second_row.ensures)
+    c.len-form.result (c.len-form.ensures ∙ sym c.self.invariant.trees_count ∙ ap (λ (v : Shared). length v.trees) c.self.view_is) c.in-Ok.rows.0 c.in-Ok.ensures.first c.in-Ok.rows.1 c.in-Ok.ensures.second)

@@ -7,7 +7,7 @@ use Rattle.sap_terms.specs.Normal.{IsNormalForm}
 use Rattle.sap_terms.specs.Tree.{apply, trees_of}
 use Rattle.sap_share.specs.Shared.{tree_at, trees_at}
 use Rattle.sap_share.proofs.Reduced.{form_side, form_kept, other_truth, form_other}
-use Rattle.sap_share.proofs.table.Table.form_on.Goals as goal
+use Rattle.sap_share.proofs.table.Table.reduct_on.Goals as goal
 
 pub returns-then-eq : goal.returns-then-eq
 returns-then-eq c =
@@ -29,11 +29,11 @@ returns-in_ok-name-in-Truth c =
     let other = other_truth c.symbols_reduce_once.ensures (equations s.sig) c.args.f.now (trees_at s.trees c.args.ks.now) (trees_at s.trees c.args.forms) c.requires.forms c.in-Truth.ensures in
     rw (c.in_ok-name-in-Truth.ensures, c.new.ensures) (All-nil (λ k. k < length s.trees), form, other)
 
-pub returns-in_ok-name-in-Nothing : goal.returns-in_ok-name-in-Nothing
-returns-in_ok-name-in-Nothing c =
+pub returns-in-Ok : goal.returns-in-Ok
+returns-in-Ok c =
     let s = c.args.self.now in
     let kept = form_kept c.equality_is_kept.ensures c.symbols_reduce_once.ensures (equations s.sig) c.args.f.now (trees_at s.trees c.args.ks.now) (trees_at s.trees c.args.forms) c.requires.forms c.in-Nothing.ensures in
-    rw c.in_ok-name-in-Nothing.ensures (
+    rw c.in-Ok.ensures (
       c.requires.forms_below,
       kept,
       form_other s.trees c.args.f.now c.args.ks.now c.args.forms c.each_has_one_number.ensures c.requires.below c.requires.forms_below c.eq.result c.if-eq.false c.eq.ensures,
