@@ -17,8 +17,13 @@ fn longer(alloc: Global, env: &Env, var: &Var, id: u64) -> Result<Env, Mem>
 {
     let var = var.copy(alloc)?;
     let mut new = env.copy(alloc)?;
-    new.push(Bound { var, id })?;
-    Ok(new)
+    match new.push(Bound { var, id }) {
+        Err(_) => {
+            drop(new);
+            Err(Mem)
+        }
+        Ok(()) => Ok(new),
+    }
 }
 
 /// What is bound, and behind it a variable of a new name, bound to the number.

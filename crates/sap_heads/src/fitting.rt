@@ -47,8 +47,8 @@ fn push_terms(alloc: Global, ts: &TermList, out: &mut TermList) -> Result<(), Me
     Ok(())
 }
 
-// The arguments of facts, one fact after another.
-fn terms_of(alloc: Global, fs: &FactList) -> Result<TermList, Mem>
+/// The arguments of facts, one fact after another.
+pub fn terms_of_facts(alloc: Global, fs: &FactList) -> Result<TermList, Mem>
     ensures { IfOk result (λ ts. ts ≡ facts_terms fs.now) }
 {
     let mut out = TermList::new(alloc);
@@ -91,12 +91,21 @@ fn fit_terms(
     requires env { AreBound (length table.now.trees) env.now }
     ensures { IfOk result (IsFit table.now.trees env.now l.now ks.now) }
 {
-    let ps = terms_of(alloc, l)?;
+    let ps = terms_of_facts(alloc, l)?;
     let mut found = env.copy(alloc)?;
-    if table.fits_each(alloc, &ps, ks, &mut found)? {
-        Ok(Some(found))
-    } else {
-        Ok(None)
+    match table.fits_each(alloc, &ps, ks, &mut found) {
+        Err(_) => {
+            drop(found);
+            Err(Mem)
+        }
+        Ok(fits) => {
+            if fits {
+                Ok(Some(found))
+            } else {
+                drop(found);
+                Ok(None)
+            }
+        }
     }
 }
 
@@ -158,10 +167,14 @@ pub(crate) fn bind_small(
 {
     let mut env = found;
     if some_large(b) {
+        drop(env);
         return Err(PFault::TermLarge);
     }
     match bind_each(alloc, table, &mut env, b) {
-        Err(_) => Err(PFault::Mem),
+        Err(_) => {
+            drop(env);
+            Err(PFault::Mem)
+        }
         Ok(()) => Ok(env),
     }
 }

@@ -12,6 +12,7 @@ mod using;
 
 pub use evaluating::{name_value, value, value_unless_large, values};
 pub use extending::with_bound;
+pub use fitting::terms_of_facts;
 pub use forms::shown_form;
 pub use meeting::met;
 pub use taking::{fitted, received};

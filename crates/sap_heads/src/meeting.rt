@@ -54,6 +54,7 @@ pub fn met(
                     Err(fault) => Err(fault),
                     Ok(new) => {
                         if i != h {
+                            drop(new);
                             return Err(PFault::Unequal);
                         }
                         Ok(new)

@@ -30,16 +30,21 @@ fn started(alloc: Global, f: &File) -> Result<Box<Filling>, Mem>
 {
     annotations_are_ready();
     let search = Search::new(alloc, &f.signature)?;
-    let config = Config::start(alloc, &f.signature, &f.process)?;
-    Ok(Box::new(
-        alloc,
-        Filling {
-            config,
-            search,
-            count: 0,
-            lines: PSteps::new(alloc),
-        },
-    )?)
+    match Config::start(alloc, &f.signature, &f.process) {
+        Err(_) => {
+            drop(search);
+            Err(Mem)
+        }
+        Ok(config) => Ok(Box::new(
+            alloc,
+            Filling {
+                config,
+                search,
+                count: 0,
+                lines: PSteps::new(alloc),
+            },
+        )?),
+    }
 }
 
 // Fills the step with this number, from 1.

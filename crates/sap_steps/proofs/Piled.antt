@@ -12,9 +12,9 @@ use Rattle.sap_facts.specs.Facts.{standing, fact_at, slots_without}
 use Rattle.sap_terms.specs.AdversaryFacts.{linear}
 use Rattle.sap_share.specs.Shared.{Shared, tree_at, AreBelow, Keeps}
 use Rattle.sap_sides.specs.Laws.{SharedFactsStay}
-use Rattle.sap_sides.specs.SharedFacts.{fact_seen}
+use Rattle.sap_sides.specs.SharedFacts.{fact_seen, slot_seen, slots_seen, IsSlotBelow, AreSlotsBelow}
 use Rattle.sap_sides.specs.declared.shared_fact.SharedFact.{SharedFact}
-use Rattle.sap_steps.specs.code.Piled.{slot_seen, slots_seen, single_of, IsSlotBelow, AreSlotsBelow}
+use Rattle.sap_steps.specs.code.Piled.{single_of}
 
 -- the facts of all slots stay what they are while the table grows
 pub slots_stay : SharedFactsStay → (s t : Shared) (slots : List (Option SharedFact)) → Keeps s t → AreSlotsBelow (length s.trees) slots → (slots_seen t.trees slots ≡ slots_seen s.trees slots) × AreSlotsBelow (length t.trees) slots

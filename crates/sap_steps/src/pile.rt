@@ -12,8 +12,8 @@ ghost use Rattle.sap_share.specs.Shared.{tree_at, AreBelow, Keeps};
 ghost use Rattle.sap_sides.specs.Fitting.{IsOnlyChoice, HasNoChoice, FactFit, FactsFit};
 ghost use Rattle.sap_sides.specs.Forms.{AreSides, HasLargeSide};
 ghost use Rattle.sap_sides.specs.Messages.{IsSmallMessageFact, HasNoDestructor, IsGroundFact};
-ghost use Rattle.sap_sides.specs.SharedFacts.{fact_seen, AreShared};
-ghost use Rattle.sap_steps.specs.code.Piled.{slots_seen, table_of, AreSlotsBelow};
+ghost use Rattle.sap_sides.specs.SharedFacts.{fact_seen, slots_seen, AreShared, AreSlotsBelow};
+ghost use Rattle.sap_steps.specs.code.Piled.{table_of};
 ghost use Rattle.sap_terms.specs.AdversaryFacts.{linear, fr_fact};
 ghost use Rattle.sap_terms.specs.Equations.{equations};
 ghost use Rattle.sap_terms.specs.Message.{IsMessage};
@@ -54,7 +54,7 @@ impl Model for SharedPile {
 
     ghost coded = { Prim.hlevel (codes, tree_code) };
 
-    ghost use Rattle.sap_steps.specs.code.Piled.{slots_seen, AreSlotsBelow};
+    ghost use Rattle.sap_sides.specs.SharedFacts.{slots_seen, AreSlotsBelow};
 
     ghost view = { λ a. record {
       sig = a.table.sig;

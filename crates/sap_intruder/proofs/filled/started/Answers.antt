@@ -9,17 +9,17 @@ use Rattle.sap_intruder.proofs.filled.started.Goals as goal
 pub start-requires : goal.start-requires
 start-requires c = c.annotations_are_ready.ensures.ready c.args.f.now.signature c.requires.process (proc c.args.f.now.process) c.requires.ready c.requires.annotation
 
-pub returns : goal.returns
-returns c =
+pub returns-in_ok-new-in-Ok : goal.returns-in_ok-new-in-Ok
+returns-in_ok-new-in-Ok c =
     let g = c.args.f.now.signature in
     let p = proc c.args.f.now.process in
-    let config = c.in_ok-config.config in
+    let config = c.in-Ok.config in
     let search = c.in_ok-search.search in
-    let b : Filling = record { config = config; search = search; count = 0; lines = c.new-2.result } in
+    let b : Filling = record { config = config; search = search; count = 0; lines = c.new-in-Ok.result } in
     let tied : IsTied b = record {
-      sig = c.in_ok-search.ensures.0 ∙ sym c.in_ok-config.ensures.sig;
-      entries = c.in_ok-search.ensures.1 ∙ sym (ap terms_of c.in_ok-config.ensures.known);
+      sig = c.in_ok-search.ensures.0 ∙ sym c.in-Ok.ensures.sig;
+      entries = c.in_ok-search.ensures.1 ∙ sym (ap terms_of c.in-Ok.ensures.known);
       count = sym (ap length c.in_ok-search.ensures.1);
     } in
-    subst (λ (x : Filling). IsFilledTo g p [] x) (sym c.in_ok-new.ensures.ok)
-    (filled_none g p b tied c.in_ok-config.ensures.sig c.in_ok-config.ensures.known c.in_ok-config.ensures.configuration c.new-2.ensures)
+    subst (λ (x : Filling). IsFilledTo g p [] x) (sym c.in_ok-new-in-Ok.ensures.ok)
+    (filled_none g p b tied c.in-Ok.ensures.sig c.in-Ok.ensures.known c.in-Ok.ensures.configuration c.new-in-Ok.ensures)
