@@ -2,7 +2,6 @@
 //! the header, where they are cut into items, and what these declare.
 #![tactic(auto)]
 
-mod boxes;
 mod declaration;
 mod declared;
 mod fact;
@@ -15,7 +14,6 @@ mod pieces;
 mod term;
 mod term_text;
 
-pub use boxes::boxed;
 pub use declared::{Declared, is_declaration, read_declarations};
 pub use fact::{read_fact, read_facts, read_short_fact};
 pub use fact_text::{push_arrow, push_fact, push_facts};
@@ -31,5 +29,6 @@ pub use look::{
     starts, starts_zero,
 };
 pub use pieces::push_separator;
+pub use sap_terms::boxed;
 pub use term::{read_short_term, read_term};
 pub use term_text::{push_terms, push_variable, push_whole_term};

@@ -10,8 +10,8 @@ ghost use Rattle.sap_locks.specs.declared.fault.LockFault.TheVariants.{UnlockWit
 use crate::fault::LockFault;
 use crate::labelling::{Locks, label};
 use crate::searching::{Found, search};
-use sap_process::{Process, Trail};
-use sap_terms::{Mem, Path};
+use sap_process::Process;
+use sap_terms::{Mem, Path, boxed};
 use std::alloc::Global;
 
 /// The process with labels: locks are numbered from 1 as they come in preorder, and each unlock gets the number of the lock
@@ -27,14 +27,8 @@ pub fn annotate(alloc: Global, p: Process) -> Result<Process, LockFault>
     ensures without_lock { (path : List ℕ) → IsErrOf result (UnlockWithoutLock path) → IsFirstLockFlaw (proc p) without path }
     ensures over_parallel { (path : List ℕ) → IsErrOf result (LockOverParallel path) → IsFirstLockFlaw (proc p) over path }
 {
-    let boxed = boxed(alloc, p)?;
-    Ok(Box::into_inner(annotate_boxed(alloc, boxed)?))
-}
-
-fn boxed(alloc: Global, p: Process) -> Result<Box<Process>, Mem>
-    ensures { IfOk result (λ q. q.value ≡ p) }
-{
-    Ok(Box::new(alloc, p)?)
+    let whole = boxed(alloc, p)?;
+    Ok(Box::into_inner(annotate_boxed(alloc, whole)?))
 }
 
 /// The same, in a box.
@@ -80,7 +74,7 @@ fn fault_in(alloc: Global, p: &Process) -> Result<Option<LockFault>, Mem>
     requires { lock_count (proc p.now) < 2 ^ 32 }
     ensures { IfOk result (λ o. o ≡ option_map told (first_flaw (proc p.now))) }
 {
-    let mut trail = Trail::new(alloc);
+    let mut trail = Path::new(alloc);
     let seen = search(p, alloc, &mut trail, 0)?;
     Ok(told_of(seen.found))
 }

@@ -7,8 +7,8 @@ ghost use Rattle.sap_locks.specs.code.Labels.{first_flaw_from, lowest, lesser, i
 ghost use Rattle.sap_locks.specs.code.Seen.{flaw_seen};
 ghost use Rattle.sap_locks.specs.Ways.{lock_count};
 
-use sap_process::{Process, Trail};
-use sap_terms::{Mem, Path};
+use sap_process::Process;
+use sap_terms::{Copied, Mem, Path};
 use std::alloc::Global;
 
 // A place that can't be annotated: a parallel or a replication, or else an unlock.
@@ -29,12 +29,7 @@ pub(crate) struct Seen {
 
 // Searches the places from this one on, where so many locks stand before it.
 #[cycle(search)]
-pub(crate) fn search(
-    p: &Process,
-    alloc: Global,
-    trail: &mut Trail,
-    before: u32,
-) -> Result<Seen, Mem>
+pub(crate) fn search(p: &Process, alloc: Global, trail: &mut Path, before: u32) -> Result<Seen, Mem>
     requires { before + lock_count (proc p.now) < 2 ^ 32 }
     ensures lowest { IfOk result (λ s. s.lowest ≡ lowest (proc p.now)) }
     ensures after { IfOk result (λ s. s.after ≡ before + lock_count (proc p.now)) }
@@ -80,7 +75,7 @@ fn search_both(
     q: &Process,
     r: &Process,
     alloc: Global,
-    trail: &mut Trail,
+    trail: &mut Path,
     before: u32,
 ) -> Result<Seen, Mem>
     requires { before + (lock_count (proc q.now) + lock_count (proc r.now)) < 2 ^ 32 }
@@ -100,7 +95,7 @@ fn search_both(
 fn search_child(
     q: &Process,
     alloc: Global,
-    trail: &mut Trail,
+    trail: &mut Path,
     digit: u8,
     before: u32,
 ) -> Result<Seen, Mem>
@@ -141,14 +136,14 @@ fn lesser(a: Option<u32>, b: Option<u32>) -> Option<u32>
 }
 
 // With the flaw of a parallel or a replication, below which this was seen.
-fn forked(alloc: Global, trail: &Trail, before: u32, seen: Seen) -> Result<Seen, Mem>
+fn forked(alloc: Global, trail: &Path, before: u32, seen: Seen) -> Result<Seen, Mem>
     ensures lowest { IfOk result (λ s. s.lowest ≡ seen.lowest) }
     ensures after { IfOk result (λ s. s.after ≡ seen.after) }
     ensures found { IfOk result (λ s. flaw_seen s.found
         ≡ or_else (cond (is_at_most seen.lowest before) (Some (over, trail.now)) None) (flaw_seen seen.found)) }
 {
     if is_at_most(seen.lowest, before) {
-        let path = trail.path(alloc)?;
+        let path = trail.copy(alloc)?;
         return Ok(Seen {
             lowest: seen.lowest,
             after: seen.after,
@@ -171,14 +166,14 @@ fn is_at_most(lowest: Option<u32>, k: u32) -> bool
 }
 
 // With the label of an unlock, and its flaw where it has none.
-fn unlocked(alloc: Global, trail: &Trail, label: u32, seen: Seen) -> Result<Seen, Mem>
+fn unlocked(alloc: Global, trail: &Path, label: u32, seen: Seen) -> Result<Seen, Mem>
     ensures lowest { IfOk result (λ s. s.lowest ≡ lesser (own_label label) seen.lowest) }
     ensures after { IfOk result (λ s. s.after ≡ seen.after) }
     ensures found { IfOk result (λ s. flaw_seen s.found
         ≡ or_else (cond (nat_eq label 0) (Some (without, trail.now)) None) (flaw_seen seen.found)) }
 {
     if label == 0 {
-        let path = trail.path(alloc)?;
+        let path = trail.copy(alloc)?;
         return Ok(Seen {
             lowest: seen.lowest,
             after: seen.after,

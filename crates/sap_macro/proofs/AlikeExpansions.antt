@@ -15,8 +15,8 @@ use Rattle.sap_macro.specs.Expansion.{scope_behind, bound_in, bound_by, behind, 
 use Rattle.sap_macro.specs.Instances.{IsOverScope, used_vars, BindsNew, IsClosed}
 use Rattle.sap_macro.specs.UpToNames.{named, Pair, pair_of, lefts, rights, here, above, AreAlikeTerms, both_variable, both_public, both_fresh, both_apply, AreAlikeLists, both_none, both_more, AreAlikePatterns, new_name, one_public, one_fresh, one_symbol, AreAlikeRows, row_ends, row_goes_on, AreAlikeFacts, facts_end, facts_go_on, AreAlikeActions, both_new, both_out, both_send, both_input, both_receive, both_event, both_insert, both_delete, both_lock, both_unlock, both_embedded, AreAlike, both_nil, both_parallel, both_replicated, both_act, both_test, both_lookup}
 use Rattle.sap_macro.specs.Written.{Written, nil, call, parallel, replicated, act, test, lookup}
-use Rattle.sap_macro.proofs.Names.{clash, two_names, apart, in_head, in_tail, not_in, out_of, left_known, right_known}
-use Rattle.sap_macro.proofs.NewNames.{in_cases}
+use Rattle.sap_terms.proofs.PlainLaws.Known.{clash, two_names, apart, in_head, in_tail, in_cases, not_in, out_of}
+use Rattle.sap_macro.proofs.Names.{left_known, right_known}
 use Rattle.sap_macro.proofs.Moving.{as_pattern, each_instance}
 use Rattle.sap_macro.proofs.Scopes.{Among, in_left, in_right, over_left, over_right, bound_append, behind_append}
 use Rattle.sap_macro.proofs.Commuting.{IsSteady, taken_grows, own_new, facts_append}

@@ -16,8 +16,7 @@ use Rattle.sap_macro.specs.Written.{Written, nil, call, parallel, replicated, ac
 use Rattle.sap_macro.specs.code.Heads.{met_names, other_names}
 use Rattle.sap_macro.specs.code.Names.{with_names}
 use Rattle.sap_macro.specs.code.Taking.{latest_first}
-use Rattle.sap_macro.proofs.Names.{own_name, one_name, clash, in_head, in_tail}
-use Rattle.sap_macro.proofs.NewNames.{in_cases}
+use Rattle.sap_terms.proofs.PlainLaws.Known.{one_name, own_name, clash, in_head, in_tail, in_cases}
 use Rattle.sap_macro.proofs.Scopes.{at_head, behind_keeps, behind_cases, is_once}
 
 -- ---- names in front of others

@@ -11,7 +11,8 @@ use Rattle.sap_macro.specs.UpToNames.{named}
 use Rattle.sap_macro.specs.Written.{Written, call, Definition}
 use Rattle.sap_macro.specs.code.Entering.{ArePut, IsEntered, own_names_in}
 use Rattle.sap_macro.specs.code.Standings.{choice_of, name_of, tree_or}
-use Rattle.sap_macro.specs.code.Steps.{built, meaning_in, plain_of, steps_in, IsResolved, IsUnknown}
+use Rattle.sap_macro.specs.Walked.{steps_in}
+use Rattle.sap_macro.specs.code.Steps.{built, meaning_in, plain_of, IsResolved, IsUnknown}
 use Rattle.sap_macro.specs.declared.standing.Standing.{Standing}
 
 -- what is the same behind names without parameters is built the same

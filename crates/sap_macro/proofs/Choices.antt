@@ -11,8 +11,8 @@ use Rattle.sap_terms.specs.Variables.{is_known}
 use Rattle.sap_macro.specs.NewNames.{candidate, new_name, renamed, taken_after}
 use Rattle.sap_macro.specs.code.Taking.{latest_first, AreBelow, IsFirst, IsKept}
 use Rattle.sap_macro.proofs.Bound.{turned}
-use Rattle.sap_macro.proofs.Names.{one_name, clash, in_tail}
-use Rattle.sap_macro.proofs.NewNames.{candidate_one, in_cases, no_more, search}
+use Rattle.sap_terms.proofs.PlainLaws.Known.{one_name, clash, in_tail, in_cases}
+use Rattle.sap_macro.proofs.NewNames.{candidate_one, no_more, search}
 use Rattle.sap_macro.proofs.Scopes.{at_head}
 
 -- the first that isn't taken is the new name

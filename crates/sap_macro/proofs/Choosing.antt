@@ -16,7 +16,8 @@ use Rattle.sap_process.specs.Flaws.{binder_of}
 use Rattle.sap_process.specs.Proc.{Proc}
 use Rattle.sap_process.specs.ProcessSteps.{chosen, with_choice}
 use Rattle.sap_macro.specs.UpToNames.{named, fact, Pair, pair_of, lefts, rights, HaveOneBinder, here, above, AreAlikePatterns, old_name, new_name, one_public, one_fresh, one_symbol, AreAlikeRows, row_ends, row_goes_on, AreAlikeFacts, facts_end, facts_go_on, AreAlike}
-use Rattle.sap_macro.proofs.Names.{one_name, own_name, clash, apart, left_known, right_known, left_of, left_is, right_is, right_of}
+use Rattle.sap_terms.proofs.PlainLaws.Known.{one_name, own_name, clash, apart}
+use Rattle.sap_macro.proofs.Names.{left_known, right_known, left_of, left_is, right_is, right_of}
 use Rattle.sap_macro.proofs.Moving.{Moves, stays_alike}
 
 -- the variables of patterns, one by one

@@ -21,8 +21,7 @@ use Rattle.sap_macro.specs.Expansion.{scope_behind, bound_in, bound_by, behind, 
 use Rattle.sap_macro.specs.Instances.{IsOverScope, used_vars, BindsNew, IsClosed, Keeps}
 use Rattle.sap_macro.specs.UpToNames.{named, fact}
 use Rattle.sap_macro.specs.Written.{Written, nil, call, parallel, replicated, act, test, lookup}
-use Rattle.sap_macro.proofs.Names.{one_name, clash, in_head, in_tail}
-use Rattle.sap_macro.proofs.NewNames.{in_cases}
+use Rattle.sap_terms.proofs.PlainLaws.Known.{one_name, clash, in_head, in_tail, in_cases}
 use Rattle.sap_macro.proofs.Scopes.{Among, in_left, in_right, behind_cases, over_more, over_behind, over_left, over_right, new_one}
 
 -- a choice that leaves a name is the choice without it

@@ -20,11 +20,12 @@ use Rattle.sap_macro.specs.Written.{Written, call, Definition}
 use Rattle.sap_macro.specs.code.Entering.{ArePut}
 use Rattle.sap_macro.specs.Indexed.{defined, IsDefined, IsIndex, AreIndexed}
 use Rattle.sap_macro.specs.code.Standings.{tree_or}
-use Rattle.sap_macro.specs.code.Steps.{IsResolved, plain_of, steps_in}
+use Rattle.sap_macro.specs.Walked.{steps_in}
+use Rattle.sap_macro.specs.code.Steps.{IsResolved, plain_of}
 use Rattle.sap_macro.specs.declared.definition.Definition as code
 use Rattle.sap_macro.specs.declared.source.Source.{Source}
 use Rattle.sap_macro.specs.declared.source.Source.TheVariants.{Call}
-use Rattle.sap_macro.proofs.Names.{one_name}
+use Rattle.sap_terms.proofs.PlainLaws.Known.{one_name}
 use Rattle.sap_macro.proofs.Built.{steps_use}
 use Rattle.sap_macro.proofs.Resolving.{resolved}
 

@@ -9,7 +9,8 @@ use Rattle.sap_macro.specs.Expansion.{Expanded, with_uses}
 use Rattle.sap_macro.specs.Written.{Written, nil, call, parallel, replicated, act, test, lookup, Definition}
 use Rattle.sap_macro.specs.code.Heads.{IsOver, IsOverBoth, forked, head_names, headed, met_names, names_in, seen_in}
 use Rattle.sap_macro.specs.code.Names.{with_names}
-use Rattle.sap_macro.specs.code.Steps.{built, plain_of, steps_in, steps, IsFormed}
+use Rattle.sap_macro.specs.Walked.{steps_in, steps}
+use Rattle.sap_macro.specs.code.Steps.{built, plain_of, IsFormed}
 use Rattle.sap_macro.specs.declared.standing.Standing.{Standing}
 use Rattle.sap_macro.proofs.Bound.{with_names-append}
 use Rattle.sap_macro.specs.UpToNames.{named}

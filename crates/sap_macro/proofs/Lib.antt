@@ -11,7 +11,6 @@ pub mod Commuting
 pub mod AlikeExpansions
 pub mod Kept
 pub mod Uses
-pub mod Putting
 pub mod Resolving
 pub mod OtherDefinitions
 pub mod PlainUses

@@ -7,10 +7,7 @@ use Rattle.std.specs.Prelude.{if◌then◌else◌, codes, decimal}
 use Rattle.std.specs.Str.{bytes_eq}
 use Rattle.sap_terms.specs.Variables.{is_known}
 use Rattle.sap_macro.specs.NewNames.{candidate, IsNewName, longer_than, first_free, new_name}
-use Rattle.sap_macro.proofs.Names.{one_name, two_names, in_head, in_tail}
-
-pub in_cases : (x y : List ℕ) (ys : List (List ℕ)) → is_known (y ∷ ys) x ≡ true → (y ≡ x) ⊎ (is_known ys x ≡ true)
-in_cases x y ys h = ⊎_elim (λ e. inl (one_name y x e)) (λ e. inr e) (or_cases (bytes_eq y x) (is_known ys x) h)
+use Rattle.sap_terms.proofs.PlainLaws.Known.{one_name, two_names, in_head, in_tail, in_cases}
 
 -- ---- a list has no more names than it is long
 

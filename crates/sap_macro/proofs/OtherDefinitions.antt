@@ -13,7 +13,7 @@ use Rattle.sap_macro.specs.NewNames.{renamed, taken_after}
 use Rattle.sap_macro.specs.Order.{UsesOnly}
 use Rattle.sap_macro.specs.UpToNames.{AreAlike}
 use Rattle.sap_macro.specs.Written.{Written, nil, call, parallel, replicated, act, test, lookup, Definition}
-use Rattle.sap_macro.proofs.Names.{apart, clash}
+use Rattle.sap_terms.proofs.PlainLaws.Known.{clash, apart}
 use Rattle.sap_macro.proofs.Resolving.{expanded_agree}
 use Rattle.sap_macro.proofs.Uses.{AreClosed, either_way, expansions_are_one, uses_are_instances}
 

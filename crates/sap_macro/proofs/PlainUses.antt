@@ -8,8 +8,7 @@ use Rattle.sap_macro.specs.Expansion.{Plain, plain, plain_after, where_none, wit
 use Rattle.sap_macro.specs.Indexed.{defined}
 use Rattle.sap_macro.specs.Order.{AreInOrder, UsesOnly, where_some, with_parameters}
 use Rattle.sap_macro.specs.Written.{Written, call, Definition}
-use Rattle.sap_macro.proofs.Names.{in_tail, one_name, two_names}
-use Rattle.sap_macro.proofs.NewNames.{in_cases}
+use Rattle.sap_terms.proofs.PlainLaws.Known.{one_name, two_names, in_tail, in_cases}
 use Rattle.sap_macro.proofs.Resolving.{more_known, uses_known}
 use Rattle.sap_macro.proofs.Scopes.{at_head}
 use Rattle.sap_macro.proofs.Uses.{either_way}

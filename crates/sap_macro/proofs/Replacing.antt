@@ -7,7 +7,7 @@ use Rattle.std.specs.Str.{bytes_eq}
 use Rattle.sap_terms.specs.Choice.{instance}
 use Rattle.sap_terms.specs.Tree.{Tree}
 use Rattle.sap_terms.specs.Variables.{is_known}
-use Rattle.sap_terms.proofs.PlainLaws.Items.{cons_cases, first_item, got_contained}
+use Rattle.sap_terms.proofs.PlainLaws.Items.{cons_cases, first_item, got_contained, none_contained}
 use Rattle.sap_process.specs.Action.{Action, new, out, send, input, receive, event, insert, delete, lock, unlock, embedded}
 use Rattle.sap_process.specs.Proc as whole
 use Rattle.sap_macro.specs.Expansion.{Meaning, Plain, binding, expanded, expansion, meaning_of, no_meaning, plain, plain_after, plain_bodies, same_name, unchanged, where_none, with_plain, with_plain_body, with_uses}
@@ -17,13 +17,9 @@ use Rattle.sap_macro.specs.Order.{AreInOrder, UsesOnly}
 use Rattle.sap_macro.specs.Replaced.{AreWithoutParameters, Stands, nothing_stands, process_of, replaced, with_standing}
 use Rattle.sap_macro.specs.Written.{Written, nil, call, parallel, replicated, act, test, lookup, Definition}
 use Rattle.sap_macro.specs.Indexed.{defined}
-use Rattle.sap_macro.proofs.Names.{not_in, out_of, two_names}
-use Rattle.sap_macro.proofs.NewNames.{in_cases}
+use Rattle.sap_terms.proofs.PlainLaws.Known.{two_names, in_cases, not_in, out_of}
 use Rattle.sap_macro.proofs.Resolving.{apart_from, meaning_stays, plain_stays, resolved, uses_agree, with_body}
 use Rattle.sap_macro.proofs.Kept.{action_kept, kept}
-
-none_contained : {X : Type 0} {x : X} → Contains [] x → ⊥
-none_contained c = let few = c.1 in omega (arith, few)
 
 -- a head without arguments to put
 binding_kept : (a : Action) → binding same_name (action_instance unchanged a) ≡ a

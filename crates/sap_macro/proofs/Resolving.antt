@@ -16,9 +16,9 @@ use Rattle.sap_macro.specs.Order.{AreInOrder, UsesOnly}
 use Rattle.sap_macro.specs.UpToNames.{named}
 use Rattle.sap_macro.specs.Written.{Written, nil, call, parallel, replicated, act, test, lookup, Definition}
 use Rattle.sap_macro.specs.Indexed.{defined}
-use Rattle.sap_macro.specs.code.Steps.{Cost, steps, with_cost, cost_after, IsResolved, IsResolvedBy, IsUnknown}
-use Rattle.sap_macro.proofs.Names.{own_name, apart, clash, in_head, in_tail, not_in, out_of}
-use Rattle.sap_macro.proofs.NewNames.{in_cases}
+use Rattle.sap_macro.specs.Walked.{Cost, steps, with_cost, cost_after}
+use Rattle.sap_macro.specs.code.Steps.{IsResolved, IsResolvedBy, IsUnknown}
+use Rattle.sap_terms.proofs.PlainLaws.Known.{own_name, clash, apart, in_head, in_tail, in_cases, not_in, out_of}
 
 -- ---- a name that these don't define means what it meant before them
 

@@ -10,8 +10,8 @@ use Rattle.sap_macro.specs.Expansion.{scope_behind, bound_in, bound_by, behind, 
 use Rattle.sap_macro.specs.Instances.{IsOverScope, IsClosed}
 use Rattle.sap_macro.specs.Written.{Written, nil, call, parallel, replicated, act, test, lookup}
 use Rattle.sap_macro.specs.NewNames.{new_name, renamed, taken_after, once}
-use Rattle.sap_macro.proofs.Names.{one_name, clash, two_names, in_head, in_tail, not_in}
-use Rattle.sap_macro.proofs.NewNames.{in_cases, new_is_free}
+use Rattle.sap_terms.proofs.PlainLaws.Known.{one_name, clash, two_names, in_head, in_tail, in_cases, not_in}
+use Rattle.sap_macro.proofs.NewNames.{new_is_free}
 
 abbrev pub Among : List (List ℕ) → List (List ℕ) → Type 0
 Among xs ys = (x : List ℕ) → is_known xs x ≡ true → is_known ys x ≡ true

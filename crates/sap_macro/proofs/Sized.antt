@@ -14,8 +14,8 @@ use Rattle.sap_macro.specs.NewNames.{renamed, taken_after}
 use Rattle.sap_macro.specs.Order.{AreInOrder, UsesOnly}
 use Rattle.sap_macro.specs.Written.{Written, nil, call, parallel, replicated, act, test, lookup, Definition}
 use Rattle.sap_macro.specs.code.Sizes.{deeper, plus, size_after, sized, with_size}
-use Rattle.sap_macro.specs.code.Steps.{Cost}
-use Rattle.sap_macro.proofs.Names.{one_name, clash, not_in}
+use Rattle.sap_macro.specs.Walked.{Cost}
+use Rattle.sap_terms.proofs.PlainLaws.Known.{one_name, clash, not_in}
 use Rattle.sap_macro.proofs.Resolving.{AreClosedUses, closed_more, expanded_agree, uses_known, with_body}
 
 -- the size of a process as it runs

@@ -16,8 +16,7 @@ use Rattle.sap_macro.specs.Instances.{written_instance, instance_by, IsClosed, K
 use Rattle.sap_macro.specs.NewNames.{renamed, taken_after}
 use Rattle.sap_macro.specs.UpToNames.{Pair, lefts, rights, AreAlikeTerms, both_public, AreAlikeLists, both_more, AreAlike, both_nil}
 use Rattle.sap_macro.specs.Written.{Written, nil, call, parallel, replicated, act, test, lookup, Definition}
-use Rattle.sap_macro.proofs.Names.{clash, two_names, not_in}
-use Rattle.sap_macro.proofs.NewNames.{in_cases}
+use Rattle.sap_terms.proofs.PlainLaws.Known.{clash, two_names, in_cases, not_in}
 use Rattle.sap_macro.proofs.Moving.{all_ground}
 use Rattle.sap_macro.proofs.Scopes.{Among, binder_is_new, is_once, once_is, grown, renamed_is_new, renamed_is_taken, renamed_one}
 use Rattle.sap_macro.proofs.Commuting.{IsSteady, same_taken, taken_grows, keeps_more, Commutes, commuted}

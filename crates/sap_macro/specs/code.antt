@@ -1,6 +1,5 @@
 -- What the code does, step by step: no public contract cites what stands below.
 pub mod Standings
-pub mod Deeds
 pub mod Steps
 pub mod Heads
 pub mod Taking

@@ -8,24 +8,25 @@ ghost use Rattle.sap_terms.specs.Variables.{is_known};
 ghost use Rattle.sap_terms.specs.View.{tree};
 ghost use Rattle.sap_process.specs.Proc.{proc, nil};
 ghost use Rattle.sap_macro.specs.Expansion.{expanded_as, expansion};
-ghost use Rattle.sap_macro.specs.NewNames.{taken_after};
+ghost use Rattle.sap_macro.specs.NewNames.{renamed, taken_after};
 ghost use Rattle.sap_macro.specs.Order.{AreInOrder};
 ghost use Rattle.sap_macro.specs.Sources.{definition_of, definitions, written};
 ghost use Rattle.sap_macro.specs.Written.{call};
 ghost use Rattle.sap_macro.specs.code.Entering.{ArePut, IsEntered, own_names_in};
 ghost use Rattle.sap_macro.specs.Indexed.{AreIndexed};
 ghost use Rattle.sap_macro.specs.code.Standings.{choice_of};
-ghost use Rattle.sap_macro.specs.code.Steps.{built, plain_of, steps_in, IsFormed, IsResolved};
+ghost use Rattle.sap_macro.specs.Walked.{steps_in};
+ghost use Rattle.sap_macro.specs.code.Steps.{built, plain_of, IsFormed, IsResolved};
 
 use crate::below::below;
 use crate::binders::add_names;
 use crate::chosen::{Chosen, new_names};
 use crate::definition::{Definition, DefinitionList};
-use crate::heads::{ended, over_one, over_two};
+use crate::heads::{over_one, over_two};
 use crate::index::{Index, definition_named, form_of, index_of};
 use crate::source::{Below, Source};
-use crate::standing::{Standing, nothing_put, terms_in};
-use sap_process::Process;
+use crate::standing::{Standing, nothing_put};
+use sap_process::{Process, ended, replaced_terms};
 use sap_terms::{Copied, Mem, Name, NameList, NameMap, NameSet, Term, TermList};
 use std::alloc::Global;
 
@@ -71,6 +72,26 @@ fn own_names(
     Ok(own)
 }
 
+// New names for what the definition binds, where these stand for its parameters.
+fn names_for(
+    alloc: Global,
+    defs: &DefinitionList,
+    index: &Index,
+    chosen: &mut Chosen,
+    terms: &NameMap<Term>,
+    d: &Definition,
+) -> Result<NameMap<Name>, Mem>
+    requires order { AreInOrder [] (definitions defs.now) }
+    requires index { AreIndexed (definitions defs.now) index.now }
+    requires params { (x : List ℕ) → is_some (value_at terms.now x) ≡ is_known d.now.params x }
+    ensures names { IfOk result (λ m. (x : List ℕ) → unwrap_or (value_at m x) x
+        ≡ renamed chosen.old (own_names_in (definitions defs.now) (definition_of d.now)) x) }
+    ensures taken { OnOk result (chosen.new ≡ taken_after chosen.old (own_names_in (definitions defs.now) (definition_of d.now))) }
+{
+    let own = own_names(alloc, defs, index, terms, d)?;
+    new_names(alloc, chosen, &own)
+}
+
 // What stands for names in the body of the definition, where these are its arguments: they for its parameters, and new names for
 // what it binds.
 fn entered_with(
@@ -87,8 +108,7 @@ fn entered_with(
     ensures taken { OnOk result (chosen.new ≡ taken_after chosen.old (own_names_in (definitions defs.now) (definition_of d.now))) }
 {
     let terms = by_params(alloc, &d.params, args)?;
-    let own = own_names(alloc, defs, index, &terms, d)?;
-    let names = new_names(alloc, chosen, &own)?;
+    let names = names_for(alloc, defs, index, chosen, &terms, d)?;
     Ok(Standing { terms, names })
 }
 
@@ -108,7 +128,7 @@ fn entered(
         (map (instance (choice_of s.now)) args.now) chosen.old inner) }
     ensures taken { OnOk result (chosen.new ≡ taken_after chosen.old (own_names_in (definitions defs.now) (definition_of d.now))) }
 {
-    let args = terms_in(alloc, s, args)?;
+    let args = replaced_terms(alloc, s, args)?;
     entered_with(alloc, defs, index, chosen, d, &args)
 }
 
@@ -221,7 +241,25 @@ fn build_in(
     }
 }
 
-// The expansion of the process, where nothing stands for its names.
+// The expansion of the process, where nothing stands for its names and these are taken.
+fn build_with(
+    alloc: Global,
+    defs: &DefinitionList,
+    index: &Index,
+    main: &Source,
+    chosen: &mut Chosen,
+) -> Result<Box<Process>, Mem>
+    requires order { AreInOrder [] (definitions defs.now) }
+    requires index { AreIndexed (definitions defs.now) index.now }
+    ensures { IfOk result (λ p. proc p.value
+        ≡ (expansion (definitions defs.now) chosen.old (written main.now)).process) }
+{
+    let first = nothing_put(alloc);
+    let made = build_in(alloc, defs, index, &first, chosen, main)?;
+    Ok(made)
+}
+
+// The same, where these are the names of the file.
 fn build_first(
     alloc: Global,
     defs: &DefinitionList,
@@ -234,10 +272,8 @@ fn build_first(
     ensures { IfOk result (λ p. proc p.value
         ≡ (expansion (definitions defs.now) identifiers.now (written main.now)).process) }
 {
-    let first = nothing_put(alloc);
     let mut chosen = Chosen::new(alloc, identifiers)?;
-    let made = build_in(alloc, defs, index, &first, &mut chosen, main)?;
-    Ok(made)
+    build_with(alloc, defs, index, main, &mut chosen)
 }
 
 /// The expansion of the process behind these definitions, where these are the names of the file. Want of memory is the only error.

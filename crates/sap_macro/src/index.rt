@@ -7,7 +7,8 @@ ghost use Rattle.sap_macro.specs.Order.{AreInOrder};
 ghost use Rattle.sap_macro.specs.Sources.{definition_of, definitions, written};
 ghost use Rattle.sap_macro.specs.Written.{call};
 ghost use Rattle.sap_macro.specs.Indexed.{AreIndexed, IsDefined, defined};
-ghost use Rattle.sap_macro.specs.code.Steps.{IsFormed, plain_of, steps_in};
+ghost use Rattle.sap_macro.specs.Walked.{steps_in};
+ghost use Rattle.sap_macro.specs.code.Steps.{IsFormed, plain_of};
 
 use crate::definition::{Definition, DefinitionList};
 use crate::source::Source;

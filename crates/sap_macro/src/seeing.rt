@@ -10,11 +10,11 @@ ghost use Rattle.sap_macro.specs.code.Heads.{PutsNothing, seen_in};
 
 use crate::below::below;
 use crate::definition::DefinitionList;
-use crate::heads::{ended, over_one, over_two, told};
+use crate::heads::{over_one, over_two, told};
 use crate::index::{Index, form_of};
 use crate::source::{Below, Source};
 use crate::standing::{Standing, nothing_put};
-use sap_process::Process;
+use sap_process::{Process, ended};
 use sap_terms::Mem;
 use std::alloc::Global;
 

@@ -2,9 +2,12 @@
 ghost use Rattle.std.specs.Prelude.{◌≡◌, ◌++◌, ◌∷◌, [], IfOk, codes, decimal, filter, not, nat_eq};
 ghost use Rattle.sap_terms.specs.Variables.{tree_vars, facts_vars, is_known, new_vars};
 ghost use Rattle.sap_terms.specs.View.{tree};
+ghost use Rattle.sap_process.specs.Proc.{proc};
 ghost use Rattle.sap_process.specs.Sites.{var_names};
 ghost use Rattle.sap_process.specs.Scopes.{lock_var, with_new};
+ghost use Rattle.sap_place.specs.code.Below.{head_locks, head_scope};
 
+use sap_process::Process;
 use sap_terms::{
     Copied, FactList, Mem, Name, Numbers, Sort, Term, Var, Vars, push_facts_vars, push_vars,
 };
@@ -105,7 +108,7 @@ fn lock_name(alloc: Global, label: u32) -> Result<Name, Mem>
 }
 
 // With the label last.
-pub(crate) fn with_label(alloc: Global, locks: &Numbers, label: u32) -> Result<Numbers, Mem>
+fn with_label(alloc: Global, locks: &Numbers, label: u32) -> Result<Numbers, Mem>
     ensures { IfOk result (λ ls. ls ≡ locks.now ++ label ∷ []) }
 {
     let mut out = locks.copy(alloc)?;
@@ -114,7 +117,7 @@ pub(crate) fn with_label(alloc: Global, locks: &Numbers, label: u32) -> Result<N
 }
 
 // Without the label.
-pub(crate) fn without_label(alloc: Global, locks: &Numbers, label: u32) -> Result<Numbers, Mem>
+fn without_label(alloc: Global, locks: &Numbers, label: u32) -> Result<Numbers, Mem>
     ensures { IfOk result (λ ls. ls ≡ filter (λ l. not (nat_eq l label)) locks.now) }
 {
     let mut out = Numbers::new(alloc);
@@ -124,4 +127,28 @@ pub(crate) fn without_label(alloc: Global, locks: &Numbers, label: u32) -> Resul
         }
     }
     Ok(out)
+}
+
+// The scope behind the head of a process that one process follows.
+pub(crate) fn with_head(alloc: Global, scope: &Vars, p: &Process) -> Result<Vars, Mem>
+    ensures { IfOk result (λ v. v ≡ head_scope scope.now (proc p.now)) }
+{
+    match p {
+        Process::New(x, _) => with_var(alloc, scope, x, Sort::Fresh),
+        Process::In(t, _) | Process::Recv(_, t, _) => with_pattern(alloc, scope, t),
+        Process::Embedded(l, e, r, _) => with_rule(alloc, scope, l, e, r),
+        Process::Lock(_, n, _) => with_lock(alloc, scope, *n),
+        _ => scope.copy(alloc),
+    }
+}
+
+// The labels of the locks that are open behind it.
+pub(crate) fn with_locks(alloc: Global, locks: &Numbers, p: &Process) -> Result<Numbers, Mem>
+    ensures { IfOk result (λ ls. ls ≡ head_locks locks.now (proc p.now)) }
+{
+    match p {
+        Process::Lock(_, n, _) => with_label(alloc, locks, *n),
+        Process::Unlock(_, n, _) => without_label(alloc, locks, *n),
+        _ => locks.copy(alloc),
+    }
 }

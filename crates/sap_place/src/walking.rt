@@ -1,18 +1,16 @@
 //! The list of places.
-ghost use Rattle.std.specs.Prelude.{◌≡◌, ◌++◌, ◌∷◌, [], filter, map, nat_eq, not, IfOk, OnOk};
+ghost use Rattle.std.specs.Prelude.{◌≡◌, ◌++◌, ◌∷◌, [], map, IfOk, OnOk};
 ghost use Rattle.sap_terms.specs.Path.{IsDigit};
 ghost use Rattle.sap_process.specs.Proc.{proc};
 ghost use Rattle.sap_place.specs.PlaceLists.{places_of, place_of};
-ghost use Rattle.sap_terms.specs.Variables.{facts_vars, tree_vars};
-ghost use Rattle.sap_terms.specs.View.{tree};
 ghost use Rattle.sap_process.specs.Sites.{message_var};
-ghost use Rattle.sap_process.specs.Scopes.{lock_var, spot, spots_from, with_new};
-ghost use Rattle.sap_place.specs.code.Below.{spots_below};
+ghost use Rattle.sap_process.specs.Scopes.{spot, spots_from};
+ghost use Rattle.sap_place.specs.code.Below.{head_locks, head_scope, spots_below};
 
 use crate::place::{Place, PlaceList, form_at};
-use crate::scoping::{with_label, with_lock, with_pattern, with_rule, with_var, without_label};
-use sap_process::{Process, Trail};
-use sap_terms::{Copied, FactList, Mem, Numbers, Sort, Term, Var, Vars};
+use crate::scoping::{with_head, with_locks, with_var};
+use sap_process::{Children, Process};
+use sap_terms::{Copied, Mem, Numbers, Path, Sort, Var, Vars};
 use std::alloc::Global;
 
 /// The places of an annotated process in preorder. Each holds a copy of its scope. It recurses as deep as the process and its
@@ -20,7 +18,7 @@ use std::alloc::Global;
 pub fn places(alloc: Global, p: &Process) -> Result<PlaceList, Mem>
     ensures { IfOk result (λ ps. ps ≡ places_of (proc p.now)) }
 {
-    let mut trail = Trail::new(alloc);
+    let mut trail = Path::new(alloc);
     let scope = Vars::new(alloc);
     let locks = Numbers::new(alloc);
     let mut out = PlaceList::new(alloc);
@@ -33,7 +31,7 @@ pub fn places(alloc: Global, p: &Process) -> Result<PlaceList, Mem>
 fn walk(
     p: &Process,
     alloc: Global,
-    trail: &mut Trail,
+    trail: &mut Path,
     scope: &Vars,
     locks: &Numbers,
     out: &mut PlaceList,
@@ -50,7 +48,7 @@ fn walk(
 fn walk_below(
     p: &Process,
     alloc: Global,
-    trail: &mut Trail,
+    trail: &mut Path,
     scope: &Vars,
     locks: &Numbers,
     out: &mut PlaceList,
@@ -59,24 +57,12 @@ fn walk_below(
     ensures same { OnOk result (trail.new ≡ trail.old) }
 {
     match p {
-        Process::Nil => Ok(()),
-        Process::Par(q, r) | Process::If(_, _, q, r) => {
-            walk_both(q, r, alloc, trail, scope, locks, out)
-        }
         Process::Lookup(_, x, q, r) => walk_branches(q, r, alloc, trail, scope, x, locks, out),
-        Process::New(x, q) => walk_with(q, alloc, trail, scope, x, Sort::Fresh, locks, out),
-        Process::In(t, q) | Process::Recv(_, t, q) => {
-            walk_pattern(q, alloc, trail, scope, t, locks, out)
-        }
-        Process::Embedded(l, e, r, q) => walk_rule(q, alloc, trail, scope, l, e, r, locks, out),
-        Process::Lock(_, n, q) => walk_locked(q, alloc, trail, scope, locks, *n, out),
-        Process::Unlock(_, n, q) => walk_unlocked(q, alloc, trail, scope, locks, *n, out),
-        Process::Rep(q)
-        | Process::Out(_, q)
-        | Process::Send(_, _, q)
-        | Process::Event(_, q)
-        | Process::Insert(_, _, q)
-        | Process::Delete(_, q) => walk_child(q, alloc, trail, 1, scope, locks, out),
+        _ => match p.children() {
+            Children::Nothing => Ok(()),
+            Children::One(q) => walk_next(p, q, alloc, trail, scope, locks, out),
+            Children::Two(q, r) => walk_both(q, r, alloc, trail, scope, locks, out),
+        },
     }
 }
 
@@ -86,7 +72,7 @@ fn walk_both(
     q: &Process,
     r: &Process,
     alloc: Global,
-    trail: &mut Trail,
+    trail: &mut Path,
     scope: &Vars,
     locks: &Numbers,
     out: &mut PlaceList,
@@ -105,7 +91,7 @@ fn walk_branches(
     q: &Process,
     r: &Process,
     alloc: Global,
-    trail: &mut Trail,
+    trail: &mut Path,
     scope: &Vars,
     x: &Var,
     locks: &Numbers,
@@ -116,107 +102,29 @@ fn walk_branches(
         ++ spots_from (trail.old ++ 2 ∷ []) scope.now locks.now (proc r.now))) }
     ensures same { OnOk result (trail.new ≡ trail.old) }
 {
-    walk_with(q, alloc, trail, scope, x, Sort::Msg, locks, out)?;
+    let inner = with_var(alloc, scope, x, Sort::Msg)?;
+    walk_child(q, alloc, trail, 1, &inner, locks, out)?;
     walk_child(r, alloc, trail, 2, scope, locks, out)
 }
 
-// Puts last the places of the first child, with the variable in scope, of this sort.
+// Puts last the places of the only child, below the head of its parent.
 #[cycle(walk)]
-fn walk_with(
+fn walk_next(
+    p: &Process,
     q: &Process,
     alloc: Global,
-    trail: &mut Trail,
+    trail: &mut Path,
     scope: &Vars,
-    x: &Var,
-    sort: Sort,
     locks: &Numbers,
     out: &mut PlaceList,
 ) -> Result<(), Mem>
     ensures list { OnOk result (out.new ≡ out.old
-        ++ map place_of (spots_from (trail.old ++ 1 ∷ []) (scope.now ++ record { name = x.now.name; sort = sort } ∷ []) locks.now (proc q.now))) }
+        ++ map place_of (spots_from (trail.old ++ 1 ∷ []) (head_scope scope.now (proc p.now)) (head_locks locks.now (proc p.now)) (proc q.now))) }
     ensures same { OnOk result (trail.new ≡ trail.old) }
 {
-    let inner = with_var(alloc, scope, x, sort)?;
-    walk_child(q, alloc, trail, 1, &inner, locks, out)
-}
-
-// The same with the new variables of a pattern.
-#[cycle(walk)]
-fn walk_pattern(
-    q: &Process,
-    alloc: Global,
-    trail: &mut Trail,
-    scope: &Vars,
-    t: &Term,
-    locks: &Numbers,
-    out: &mut PlaceList,
-) -> Result<(), Mem>
-    ensures list { OnOk result (out.new ≡ out.old
-        ++ map place_of (spots_from (trail.old ++ 1 ∷ []) (with_new scope.now (tree_vars (tree t.now))) locks.now (proc q.now))) }
-    ensures same { OnOk result (trail.new ≡ trail.old) }
-{
-    let inner = with_pattern(alloc, scope, t)?;
-    walk_child(q, alloc, trail, 1, &inner, locks, out)
-}
-
-// The same with the new variables of an embedded rule.
-#[cycle(walk)]
-fn walk_rule(
-    q: &Process,
-    alloc: Global,
-    trail: &mut Trail,
-    scope: &Vars,
-    l: &FactList,
-    e: &FactList,
-    r: &FactList,
-    locks: &Numbers,
-    out: &mut PlaceList,
-) -> Result<(), Mem>
-    ensures list { OnOk result (out.new ≡ out.old
-        ++ map place_of (spots_from (trail.old ++ 1 ∷ []) (with_new scope.now (facts_vars (l.now ++ (e.now ++ r.now)))) locks.now (proc q.now))) }
-    ensures same { OnOk result (trail.new ≡ trail.old) }
-{
-    let inner = with_rule(alloc, scope, l, e, r)?;
-    walk_child(q, alloc, trail, 1, &inner, locks, out)
-}
-
-// Puts last the places below a lock of this label.
-#[cycle(walk)]
-fn walk_locked(
-    q: &Process,
-    alloc: Global,
-    trail: &mut Trail,
-    scope: &Vars,
-    locks: &Numbers,
-    label: u32,
-    out: &mut PlaceList,
-) -> Result<(), Mem>
-    ensures list { OnOk result (out.new ≡ out.old
-        ++ map place_of (spots_from (trail.old ++ 1 ∷ []) (scope.now ++ lock_var label ∷ []) (locks.now ++ label ∷ []) (proc q.now))) }
-    ensures same { OnOk result (trail.new ≡ trail.old) }
-{
-    let inner = with_lock(alloc, scope, label)?;
-    let held = with_label(alloc, locks, label)?;
+    let inner = with_head(alloc, scope, p)?;
+    let held = with_locks(alloc, locks, p)?;
     walk_child(q, alloc, trail, 1, &inner, &held, out)
-}
-
-// And below an unlock.
-#[cycle(walk)]
-fn walk_unlocked(
-    q: &Process,
-    alloc: Global,
-    trail: &mut Trail,
-    scope: &Vars,
-    locks: &Numbers,
-    label: u32,
-    out: &mut PlaceList,
-) -> Result<(), Mem>
-    ensures list { OnOk result (out.new ≡ out.old
-        ++ map place_of (spots_from (trail.old ++ 1 ∷ []) scope.now (filter (λ l. not (nat_eq l label)) locks.now) (proc q.now))) }
-    ensures same { OnOk result (trail.new ≡ trail.old) }
-{
-    let inner = without_label(alloc, locks, label)?;
-    walk_child(q, alloc, trail, 1, scope, &inner, out)
 }
 
 // Puts last the places of the child of this digit.
@@ -224,7 +132,7 @@ fn walk_unlocked(
 fn walk_child(
     q: &Process,
     alloc: Global,
-    trail: &mut Trail,
+    trail: &mut Path,
     digit: u8,
     scope: &Vars,
     locks: &Numbers,
@@ -242,14 +150,14 @@ fn walk_child(
 
 fn place_at(
     alloc: Global,
-    trail: &Trail,
+    trail: &Path,
     scope: &Vars,
     locks: &Numbers,
     p: &Process,
 ) -> Result<Place, Mem>
     ensures { IfOk result (λ s. s ≡ place_of (spot trail.now scope.now locks.now (proc p.now))) }
 {
-    let path = trail.path(alloc)?;
+    let path = trail.copy(alloc)?;
     let scope = scope.copy(alloc)?;
     let open_locks = locks.copy(alloc)?;
     Ok(Place {

@@ -1,24 +1,14 @@
 -- One flaw counts.
-use Rattle.std.proofs.Common.{◌≡◌, ◌<◌, ℕ, Bool, true, false, List, Some, refl, sym, ap, ◌∙◌, arith, subst}
+use Rattle.std.proofs.Common.{◌≡◌, ◌<◌, ℕ, List, Some, refl, sym, ap, ◌∙◌, subst}
 use Rattle.std.specs.Prelude.{slice_get, ◌==◌, if◌then◌else◌}
-use Rattle.std.proofs.Math.Dec.{ltb}
-use Rattle.std.proofs.lemmas.Bool.Decides.{Decides-ltb}
 use Rattle.sap_terms.specs.Signature.{Sig}
 use Rattle.sap_process.specs.declared.flaw.Flaw.{Flaw}
 use Rattle.sap_process.specs.declared.flaw.Flaw.TheVariants.{BadFunction, ReservedVar, ReservedFact, FactClash, PatternDestructor, Unbound, Rebound, SortClash, ScopeFull}
 use Rattle.sap_process.specs.Proc.{Proc}
 use Rattle.sap_terms.specs.declared.var.Var.{Var}
 use Rattle.sap_process.specs.Sites.{Site, sites_in}
-use Rattle.sap_process.specs.Flaws.{IsFirstFlawIn, IsWellFormedIn, rank}
-
--- of two numbers that are not one before the other they are the same
-pub same_number : (a b : ℕ) → ¬ (a < b) → ¬ (b < a) → a ≡ b
-same_number a b h k = go (ltb a b) (ltb b a) refl refl
-  where
-    go : (s t : Bool) → ltb a b ≡ s → ltb b a ≡ t → a ≡ b
-    go true t e f = absurd (h ((Decides-ltb a b).0 e))
-    go false true e f = absurd (k ((Decides-ltb b a).0 f))
-    go false false e f = omega (arith, (Decides-ltb a b).1, e, f, h, k)
+use Rattle.sap_process.specs.Flaws.{IsFirstFlawIn, IsFirstScopeFlaw, IsFlawedIn, IsWellFormedIn, rank}
+use Rattle.sap_terms.proofs.PlainLaws.Numbers.{same_number}
 
 -- the flaw of a rank
 flaw_at : ℕ → Flaw
@@ -42,21 +32,36 @@ flaw_of_rank ScopeFull = refl
 pub one_rank : (w v : Flaw) → rank w ≡ rank v → w ≡ v
 one_rank w v e = sym (flaw_of_rank w) ∙ ap flaw_at e ∙ flaw_of_rank v
 
+-- the first place that has a flaw
+one_place : (g : Sig) (scope : List Var) (p : Proc) (w : Flaw) (j k : ℕ) (x : IsFlawedIn g scope p w j) (y : IsFlawedIn g scope p w k) → ((i : ℕ) → i < j → ¬ IsFlawedIn g scope p w i)
+    → ((i : ℕ) → i < k → ¬ IsFlawedIn g scope p w i) → x.site.path ≡ y.site.path
+one_place g scope p w j k x y before earlier = ap (λ (s : Site). s.path) site_is
+  where
+    place_is : j ≡ k
+    place_is = same_number j k (λ l. earlier j l x) (λ l. before k l y)
+
+    site_is : x.site ≡ y.site
+    site_is =
+        let same : Some x.site ≡ Some y.site = sym x.stands ∙ ap (slice_get (sites_in scope p)) place_is ∙ y.stands in
+        cc
+
 -- one flaw, at one place
 pub one_flaw : (g : Sig) (scope : List Var) (p : Proc) (w v : Flaw) (path other : List ℕ) → IsFirstFlawIn g scope p w path → IsFirstFlawIn g scope p v other → (w ≡ v) × (path ≡ other)
 one_flaw g scope p w v path other f h = at_one (one_rank w v (same_number (rank w) (rank v) (λ l. h.least w l f.place f.at) (λ l. f.least v l h.place h.at))) h
   where
-    place_is : (k : IsFirstFlawIn g scope p w other) → f.place ≡ k.place
-    place_is k = same_number f.place k.place (λ l. k.first f.place l f.at) (λ l. f.first k.place l k.at)
-
-    site_is : (k : IsFirstFlawIn g scope p w other) → f.at.site ≡ k.at.site
-    site_is k =
-        let same : Some f.at.site ≡ Some k.at.site = sym f.at.stands ∙ ap (slice_get (sites_in scope p)) (place_is k) ∙ k.at.stands in
-        cc
-
     at_one : w ≡ v → IsFirstFlawIn g scope p v other → (w ≡ v) × (path ≡ other)
     at_one e k = let here : IsFirstFlawIn g scope p w other = subst (λ u. IsFirstFlawIn g scope p u other) (sym e) k in
-        (e, sym f.path_is ∙ ap (λ (s : Site). s.path) (site_is here) ∙ here.path_is)
+        (e, sym f.path_is ∙ one_place g scope p w f.place here.place f.at here.at f.first here.first ∙ here.path_is)
+
+-- the same of those that scope alone decides
+pub one_scope_flaw : (g : Sig) (scope : List Var) (p : Proc) (w v : Flaw) (path other : List ℕ) → IsFirstScopeFlaw g scope p w path → IsFirstScopeFlaw g scope p v other
+    → (w ≡ v) × (path ≡ other)
+one_scope_flaw g scope p w v path other f h =
+    at_one (one_rank w v (same_number (rank w) (rank v) (λ l. h.least w f.of_scope l f.place f.at) (λ l. f.least v h.of_scope l h.place h.at))) h
+  where
+    at_one : w ≡ v → IsFirstScopeFlaw g scope p v other → (w ≡ v) × (path ≡ other)
+    at_one e k = let here : IsFirstScopeFlaw g scope p w other = subst (λ u. IsFirstScopeFlaw g scope p u other) (sym e) k in
+        (e, sym f.path_is ∙ one_place g scope p w f.place here.place f.at here.at f.first here.first ∙ here.path_is)
 
 -- a process with a flaw isn't well-formed
 pub no_flaw : (g : Sig) (scope : List Var) (p : Proc) (w : Flaw) (path : List ℕ) → IsFirstFlawIn g scope p w path → IsWellFormedIn g scope p → ⊥

@@ -1,4 +1,4 @@
--- Bindings without those of one name, and lists that grow by one item.
+-- Bindings without those of one name.
 use Rattle.std.proofs.Common.{◌≡◌, ℕ, zero, suc, ◌+◌, add-one, List, [], ◌∷◌, ◌++◌, take, map, Some, true, false, not, refl, sym, ap, ◌∙◌, inl, inr}
 use Rattle.std.specs.Prelude.{slice_get}
 use Rattle.std.proofs.lemmas.List.{map_push}
@@ -55,18 +55,3 @@ bound_to-others x (e ∷ es) v =
 -- the same for all variables at once
 pub choice-others : (x : Var) (b : List Binding) → bound_to (others x b) ≡ without (bound_to b) x
 choice-others x b = fun_ext (λ v. bound_to-others x b v)
-
--- one more item
-pub take_got : {X : Type 0} (xs : List X) (k : ℕ) (x : X) → slice_get xs k ≡ Some x → take (k + 1) xs ≡ take k xs ++ x ∷ []
-take_got {X} xs k x h = rw add-one (at xs k h) where
-  at : (xs : List X) (k : ℕ) → slice_get xs k ≡ Some x → take (suc k) xs ≡ take k xs ++ x ∷ []
-  at [] k h = cc
-  at (y ∷ ys) zero h = let e : y ≡ x = cc in ap (λ z. z ∷ []) e
-  at (y ∷ ys) (suc k) h = ap (λ zs. y ∷ zs) (at ys k h)
-
--- one more item of a list that is mapped
-pub map_got : {X Y : Type 0} (f : X → Y) (xs : List X) (k : ℕ) (x : X) → slice_get xs k ≡ Some x
-    → map f (take (k + 1) xs) ≡ map f (take k xs) ++ f x ∷ []
-map_got f xs k x h = rw (take_got xs k x h, map_push) refl
-
-pub ruleset map_laws = (map_got)

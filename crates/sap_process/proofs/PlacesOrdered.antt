@@ -4,7 +4,7 @@ use Rattle.std.specs.Prelude.{◌⊎◌}
 use Rattle.std.proofs.Math.Dec.{ltb}
 use Rattle.std.proofs.lemmas.Bool.Decides.{Decides-ltb}
 use Rattle.sap_process.specs.Places.{IsBefore}
-use Rattle.sap_process.proofs.OneFlaw.{same_number}
+use Rattle.sap_terms.proofs.PlainLaws.Numbers.{same_number}
 
 pub not_itself : (v : List ℕ) → ¬ IsBefore v v
 not_itself [] h = h

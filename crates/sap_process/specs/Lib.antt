@@ -2,6 +2,7 @@ pub use Rattle.sap_terms.specs.Tree
 pub use Rattle.sap_terms.specs.View
 pub use Rattle.sap_terms.specs.Reserved
 pub mod Action
+pub mod Deeds
 pub mod Proc
 pub mod Heads
 pub mod Sites

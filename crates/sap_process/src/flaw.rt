@@ -6,7 +6,7 @@ use sap_terms::{Mem, Path};
 
 /// What can be wrong at a place of a process, in the order in which flaws count: the first that holds anywhere is told, at
 /// its first place in preorder.
-#[derive(Clone, Copy, Debug, PartialEq, Eq)]
+#[derive(Clone, Copy, PartialEq, Eq)]
 pub enum Flaw {
     /// A term applies a symbol that isn't held, or not with its arity; or `new` binds a plain identifier, or `lookup` a name,
     /// that is a held symbol of arity 0.

@@ -4,7 +4,6 @@ ghost use Rattle.sap_process.specs.code.Walks.{settled, unmet, answer};
 
 use crate::Flaw;
 use crate::met::Seen;
-use crate::trail::Trail;
 use sap_terms::{Copied, Mem, Path};
 use std::alloc::Global;
 use std::marker::Model;
@@ -78,11 +77,11 @@ impl Found {
     }
 
     // So many of the flaws that were looked for count before the one that the place of this trail has, if it has one.
-    pub(crate) fn settle(&mut self, alloc: Global, free: u64, trail: &Trail) -> Result<(), Mem>
+    pub(crate) fn settle(&mut self, alloc: Global, free: u64, trail: &Path) -> Result<(), Mem>
         ensures { OnOk result (self.new ≡ settled self.old free trail.now) }
     {
         if free < self.sought.len() {
-            self.path = trail.path(alloc)?;
+            self.path = trail.copy(alloc)?;
             self.sought.cut(free);
         }
         Ok(())

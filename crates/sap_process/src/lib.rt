@@ -19,7 +19,6 @@ mod scope;
 mod scope_flaw;
 mod sorting;
 mod substituting;
-mod trail;
 mod walk;
 
 pub use by_hand::{flaws_by_hand, instances_by_hand, places_by_hand, scopes_by_hand};
@@ -32,6 +31,9 @@ pub use laws::{
 };
 pub use places::{HandsDown, ScopeBelow, places_are_by_path, places_are_ordered};
 pub use process::{Children, Process};
-pub use scope_flaw::{first_scope_flaw, scope_flaws_by_hand, some_scope_flaw};
+pub use replacing::{
+    Deed, Replacing, Transfer, creating, embedding, ended, looking_up, over_term, over_terms,
+    repeated, replaced_term, replaced_terms, showing, side_by_side, testing,
+};
+pub use scope_flaw::{first_scope_flaw, one_scope_flaw, scope_flaws_by_hand, some_scope_flaw};
 pub use substituting::substitute;
-pub use trail::Trail;

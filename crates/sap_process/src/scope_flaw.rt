@@ -1,5 +1,5 @@
 //! Flaws that scope alone decides.
-ghost use Rattle.std.specs.Prelude.{◌⊎◌, ℕ, List, [], ◌∷◌, IfOk, IfSome, IfNone};
+ghost use Rattle.std.specs.Prelude.{◌≡◌, ◌⊎◌, ℕ, List, [], ◌∷◌, IfOk, IfSome, IfNone};
 ghost use Rattle.sap_terms.specs.Signature.{Sig};
 ghost use Rattle.sap_terms.specs.Tree.{variable};
 ghost use Rattle.sap_terms.specs.declared.var.Var.{Var};
@@ -36,6 +36,12 @@ pub fn first_scope_flaw(
 pub fn some_scope_flaw()
     ensures { (g : Sig) (scope : List Var) (p : Proc) → HasNoScopeFlaw g scope p
         ⊎ ((w : Flaw) × (path : List ℕ) × IsFirstScopeFlaw g scope p w path) }
+{}
+
+/// A law: one of the three flaws counts at most, at one place.
+pub fn one_scope_flaw()
+    ensures { (g : Sig) (scope : List Var) (p : Proc) (w v : Flaw) (path other : List ℕ) → IsFirstScopeFlaw g scope p w path
+        → IsFirstScopeFlaw g scope p v other → (w ≡ v) × (path ≡ other) }
 {}
 
 /// A law: small processes where x is in scope as a plain variable, which binds it: a `new` or a look-up of that name binds it again,

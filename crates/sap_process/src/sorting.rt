@@ -1,7 +1,6 @@
 //! Processes with the sorts of binders.
-ghost use Rattle.std.specs.Prelude.{◌≡◌, [], ◌∷◌, ◌++◌, IfOk, OnOk, map};
-ghost use Rattle.sap_terms.specs.Choice.{instance};
-ghost use Rattle.sap_terms.specs.Tree.{variable, apply, trees_of};
+ghost use Rattle.std.specs.Prelude.{◌≡◌, ◌∷◌, [], ◌++◌, IfOk, OnOk};
+ghost use Rattle.sap_terms.specs.Tree.{variable};
 ghost use Rattle.sap_terms.specs.View.{tree};
 ghost use Rattle.sap_process.specs.Flaws.{scope_at};
 ghost use Rattle.sap_process.specs.code.Headed.{headed, forked};
@@ -13,7 +12,7 @@ use crate::naming::{bind, with_sort};
 use crate::replacing::{Replacing, ended, looking_up, over, over_both};
 use crate::scope::Scope;
 use crate::{Children, Process};
-use sap_terms::{Copied, Mem, Name, Sort, Term, TermList, Var};
+use sap_terms::{Copied, Mem, Sort, Term, Var};
 use std::alloc::Global;
 
 impl Replacing for Scope {
@@ -21,8 +20,9 @@ impl Replacing for Scope {
 
     ghost bound = { λ scope. fresh_var };
 
-    fn replaced(&self, alloc: Global, t: &Term) -> Result<Term, Mem> {
-        sorted_term(alloc, self, t)
+    fn at(&self, alloc: Global, x: &Var) -> Result<Term, Mem> {
+        let v = sorted_var(alloc, self, x)?;
+        Ok(Term::Var(v))
     }
 
     fn bound(&self, alloc: Global, x: &Var) -> Result<Var, Mem> {
@@ -122,49 +122,6 @@ fn sorted_with(alloc: Global, scope: &mut Scope, x: &Var, p: &Process) -> Result
     let made = sorted(alloc, scope, p)?;
     scope.cut(before);
     Ok(made)
-}
-
-#[cycle(sorted_term)]
-#[tactic(auto, using(crate::proofs::Instances::instance_laws))]
-fn sorted_term(alloc: Global, scope: &Scope, t: &Term) -> Result<Term, Mem>
-    ensures { IfOk result (λ r. tree r ≡ instance (by_binder scope.now) (tree t.now)) }
-{
-    match t {
-        Term::Var(v) => sorted_leaf(alloc, scope, v),
-        Term::Public(_) | Term::Fresh(_) => t.copy(alloc),
-        Term::App(f, ts) => {
-            let args = sorted_terms(alloc, scope, ts)?;
-            applied(alloc, f, args)
-        }
-    }
-}
-
-#[cycle(sorted_term)]
-#[tactic(auto, using(crate::proofs::Instances::instance_laws))]
-fn sorted_terms(alloc: Global, scope: &Scope, ts: &TermList) -> Result<TermList, Mem>
-    ensures { IfOk result (λ us. us ≡ map (instance (by_binder scope.now)) ts.now) }
-{
-    let mut out = TermList::new(alloc);
-    for k in 0..ts.len() {
-        out.push(sorted_term(alloc, scope, ts.at(k))?)?;
-    }
-    Ok(out)
-}
-
-// The symbol on these terms.
-fn applied(alloc: Global, f: &Name, ts: TermList) -> Result<Term, Mem>
-    ensures { IfOk result (λ t. tree t ≡ apply f.now (trees_of ts)) }
-{
-    let f = f.copy(alloc)?;
-    Ok(Term::App(f, ts))
-}
-
-// The variable with the sort of its binder, as a term.
-fn sorted_leaf(alloc: Global, scope: &Scope, v: &Var) -> Result<Term, Mem>
-    ensures { IfOk result (λ t. tree t ≡ by_binder scope.now v.now) }
-{
-    let w = sorted_var(alloc, scope, v)?;
-    Ok(Term::Var(w))
 }
 
 // The variable with the sort of its binder.

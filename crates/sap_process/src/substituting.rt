@@ -28,8 +28,9 @@ impl Replacing for Bindings {
 
     ghost bound = { λ b x. x };
 
-    fn replaced(&self, alloc: Global, t: &Term) -> Result<Term, Mem> {
-        subst(alloc, t, self)
+    fn at(&self, alloc: Global, x: &Var) -> Result<Term, Mem> {
+        let variable = Term::Var(x.copy(alloc)?);
+        subst(alloc, &variable, self)
     }
 
     fn bound(&self, alloc: Global, x: &Var) -> Result<Var, Mem> {

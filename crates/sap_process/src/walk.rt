@@ -15,7 +15,6 @@ use crate::heads::{has_pattern_destructor, has_reserved_fact, has_reserved_var, 
 use crate::naming::{Tested, test, with_sort};
 use crate::occurrences::any_at_head;
 use crate::scope::Scope;
-use crate::trail::Trail;
 use crate::{Children, Flaw, Process};
 use sap_terms::{Mem, Path, Signature, Sort, Var, Vars};
 use std::alloc::Global;
@@ -23,7 +22,7 @@ use std::alloc::Global;
 // Where a walk in preorder stands: the path of the place, what is in scope there, and what was found before.
 #[derive(Drop)]
 struct Walk {
-    trail: Trail,
+    trail: Path,
     scope: Scope,
     found: Found,
 }
@@ -53,7 +52,7 @@ fn at_the_root(alloc: Global, flaws: &[Flaw]) -> Result<Box<Walk>, Mem>
     Ok(Box::new(
         alloc,
         Walk {
-            trail: Trail::new(alloc),
+            trail: Path::new(alloc),
             scope: Scope::new(alloc),
             found,
         },

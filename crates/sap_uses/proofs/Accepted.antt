@@ -10,7 +10,7 @@ use Rattle.sap_terms.specs.Signature.{Sig}
 use Rattle.sap_terms.specs.Tree.{Tree}
 use Rattle.sap_terms.specs.Variables.{is_known}
 use Rattle.sap_terms.specs.declared.var.Sort.TheVariants.{Msg}
-use Rattle.sap_terms.proofs.PlainLaws.Items.{cons_cases, first_item, got_contained, item_cases, later_item}
+use Rattle.sap_terms.proofs.PlainLaws.Items.{cons_cases, first_item, got_contained, item_cases, later_item, none_contained}
 use Rattle.sap_process.specs.Sites.{var_names}
 use Rattle.sap_macro.specs.Expansion.{plain, plain_after, plain_bodies, where_none, with_plain_body}
 use Rattle.sap_macro.specs.Indexed.{defined}
@@ -28,15 +28,12 @@ use Rattle.sap_uses.specs.declared.fault.MacroFault.TheVariants.{Flawed}
 use Rattle.sap_uses.proofs.Closed.{unflawed_closed}
 use Rattle.sap_uses.proofs.FirstFlawed.{NoneBefore, first_is}
 use Rattle.sap_uses.proofs.Leading.{item_mapped, plain_leads, written_leads}
-use Rattle.sap_uses.proofs.Names.{apart, clash, in_cases, in_head, in_tail, not_in, out_of}
+use Rattle.sap_terms.proofs.PlainLaws.Known.{clash, apart, in_head, in_tail, in_cases, not_in, out_of}
 use Rattle.sap_uses.proofs.Resolving.{apart_from}
 use Rattle.sap_uses.proofs.SomeCause.{IsFirst, ScopeFlawOrNone, all_reached, first_or_none}
 
 at_head : (x y : List ℕ) (ys : List (List ℕ)) → y ≡ x → is_known (y ∷ ys) x ≡ true
 at_head x y ys e = subst (λ z. is_known (y ∷ ys) z ≡ true) e (in_head y ys)
-
-none_contained : {X : Type 0} {x : X} → Contains [] x → ⊥
-none_contained c = let few = c.1 in omega (arith, few)
 
 -- ---- uses, and names that are used alone
 

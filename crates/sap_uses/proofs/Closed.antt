@@ -22,7 +22,7 @@ use Rattle.sap_macro.specs.Expansion.{behind, scope_behind}
 use Rattle.sap_macro.specs.Instances.{BindsNew, IsClosed, IsOverScope, used_vars}
 use Rattle.sap_macro.specs.Seen.{seen}
 use Rattle.sap_macro.specs.Written.{Written, nil, call, parallel, replicated, act, test, lookup}
-use Rattle.sap_uses.proofs.Names.{one_name}
+use Rattle.sap_terms.proofs.PlainLaws.Known.{one_name}
 
 -- ---- which names are known
 

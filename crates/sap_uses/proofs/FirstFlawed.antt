@@ -17,7 +17,7 @@ use Rattle.sap_macro.specs.Written.{Written, call, Definition}
 use Rattle.sap_uses.specs.ScopeFlaws.{IsFirstFlawedBehind, IsFlawed, params_in_scope}
 use Rattle.sap_uses.specs.code.Marks.{AreReached, IsFlawedThere}
 use Rattle.sap_uses.proofs.Leading.{plain_leads, written_leads}
-use Rattle.sap_uses.proofs.Names.{clash}
+use Rattle.sap_terms.proofs.PlainLaws.Known.{clash}
 
 -- none of the first definitions is flawed
 abbrev pub NoneBefore : Sig → List Definition → Written → ℕ → Type 0

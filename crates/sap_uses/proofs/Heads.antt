@@ -15,7 +15,8 @@ use Rattle.sap_uses.specs.declared.large.Reached.{Reached}
 use Rattle.sap_uses.specs.declared.large.Reached.TheVariants.{Large, Body}
 use Rattle.sap_uses.specs.declared.met.Met.{Met}
 use Rattle.sap_uses.specs.declared.met.Met.TheVariants.{Nothing, Plain, Use, One, Two}
-use Rattle.sap_uses.specs.code.Walks.{Cost, Heavy, Sizes, cost_of, has_heavy, heavy, heavy_at, heavy_of, heavy_use, put_sizes, sizes_of, steps, steps_in, IsResolved}
+use Rattle.sap_macro.specs.Walked.{Cost, cost_of, steps, steps_in}
+use Rattle.sap_uses.specs.code.Walks.{Heavy, Sizes, has_heavy, heavy, heavy_at, heavy_of, heavy_use, put_sizes, sizes_of, IsResolved}
 
 positive : (c : Cost) (w : Written) → 0 < steps c w
 positive c nil = omega arith

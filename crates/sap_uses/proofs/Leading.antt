@@ -4,17 +4,14 @@ use Rattle.std.proofs.lemmas.List.Elements.{Contains-append_cases, Contains-appe
 use Rattle.std.specs.Prelude.{if◌then◌else◌, Contains}
 use Rattle.std.specs.Str.{bytes_eq}
 use Rattle.sap_terms.specs.Tree.{Tree}
-use Rattle.sap_terms.proofs.PlainLaws.Items.{cons_cases, first_item, item_cases, later_item}
+use Rattle.sap_terms.proofs.PlainLaws.Items.{cons_cases, first_item, item_cases, later_item, none_contained}
 use Rattle.sap_macro.specs.Expansion.{Plain, plain, plain_after, plain_bodies, where_none, with_plain, with_plain_body, with_uses}
 use Rattle.sap_macro.specs.MacroCauses.{Use, uses}
 use Rattle.sap_macro.specs.Written.{Written, nil, call, parallel, replicated, act, test, lookup, Definition}
 use Rattle.sap_uses.specs.ScopeFlaws.{LeadsTo, at_once, further}
-use Rattle.sap_uses.proofs.Names.{one_name}
+use Rattle.sap_terms.proofs.PlainLaws.Known.{one_name}
 
 -- ---- uses behind uses
-
-none_contained : {X : Type 0} {x : X} → Contains [] x → ⊥
-none_contained c = let few = c.1 in omega (arith, few)
 
 module _ (m : Plain) (u : Use) where
   -- it stands in what one of these uses becomes

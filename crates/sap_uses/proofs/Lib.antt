@@ -1,4 +1,3 @@
-pub mod Names
 pub mod Resolving
 pub mod Entries
 pub mod Counted

@@ -9,13 +9,13 @@ use Rattle.std.specs.Prelude.{if◌then◌else◌, Contains, slice_get}
 use Rattle.std.specs.Str.{bytes_eq}
 use Rattle.sap_terms.specs.NameSet.{with_name}
 use Rattle.sap_terms.specs.Variables.{is_known}
-use Rattle.sap_terms.proofs.PlainLaws.Items.{contains_got, first_item, got_contained, item_cases}
+use Rattle.sap_terms.proofs.PlainLaws.Items.{contains_got, first_item, got_contained, item_cases, none_contained}
 use Rattle.sap_macro.specs.MacroCauses.{Use, uses}
 use Rattle.sap_macro.specs.Order.{AreInOrder, UsesOnly}
 use Rattle.sap_macro.specs.Written.{Written, nil, call, parallel, replicated, act, test, lookup, Definition}
 use Rattle.sap_uses.specs.ScopeFlaws.{LeadsTo, at_once, further}
 use Rattle.sap_uses.specs.code.Marks.{AreReached, IsMarked, marked, marked_behind}
-use Rattle.sap_uses.proofs.Names.{clash, in_tail, one_name, own_name}
+use Rattle.sap_terms.proofs.PlainLaws.Known.{one_name, own_name, clash, in_tail}
 
 -- ---- one name more
 
@@ -54,9 +54,6 @@ kept names (replicated p) f h = kept names p f h
 kept names (act a p) f h = kept names p f h
 kept names (test t u p q) f h = kept (marked names p) q f (kept names p f h)
 kept names (lookup t x p q) f h = kept (marked names p) q f (kept names p f h)
-
-none_contained : {X : Type 0} {x : X} → Contains [] x → ⊥
-none_contained c = let few = c.1 in omega (arith, few)
 
 module _ (u : Use) where
   -- of two processes, the second behind the first

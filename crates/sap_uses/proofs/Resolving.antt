@@ -7,8 +7,9 @@ use Rattle.sap_terms.specs.Variables.{is_known}
 use Rattle.sap_macro.specs.Order.{AreInOrder, UsesOnly}
 use Rattle.sap_macro.specs.Written.{Written, nil, call, parallel, replicated, act, test, lookup, Definition}
 use Rattle.sap_macro.specs.Indexed.{defined, IsDefined}
-use Rattle.sap_uses.specs.code.Walks.{Sizes, Heavy, heavy_in, heavy_at, with_heavy, none_heavy, heavy_after, has_heavy, put_sizes, sizes_of, Cost, steps, with_cost, cost_after, IsResolved, IsResolvedBy, IsUnknown}
-use Rattle.sap_uses.proofs.Names.{own_name, apart, clash, in_head, in_tail, not_in, out_of}
+use Rattle.sap_macro.specs.Walked.{Cost, steps, with_cost, cost_after}
+use Rattle.sap_uses.specs.code.Walks.{Sizes, Heavy, heavy_in, heavy_at, with_heavy, none_heavy, heavy_after, has_heavy, put_sizes, sizes_of, IsResolved, IsResolvedBy, IsUnknown}
+use Rattle.sap_terms.proofs.PlainLaws.Known.{own_name, clash, apart, in_head, in_tail, not_in, out_of}
 
 -- ---- a name that these don't define stands for what it did before them
 

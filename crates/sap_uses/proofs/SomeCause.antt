@@ -26,7 +26,7 @@ use Rattle.sap_uses.specs.declared.fault.MacroFault.{MacroFault}
 use Rattle.sap_uses.proofs.Causes.{arguments_hold, cause_is, counts_absent, flawed_holds, joined, large_holds, levels_hold, none_holds, parameters_hold, places_hold, size_absent, uses_absent}
 use Rattle.sap_uses.proofs.FirstFlawed.{NoneBefore, first_is, none_before, none_is, one_before}
 use Rattle.sap_uses.proofs.Marked.{AreMarked, all_marked, none_marked, one_marked}
-use Rattle.sap_uses.proofs.Names.{clash}
+use Rattle.sap_terms.proofs.PlainLaws.Known.{clash}
 
 abbrev some_definition : Definition
 some_definition = record { name = []; params = []; body = nil }

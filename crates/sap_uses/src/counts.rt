@@ -100,8 +100,8 @@ fn other_in<'a>(counts: &NameMap<u64>, source: &'a Source) -> Option<&'a Name>
     }
 }
 
-// A copy of the name, if there is one.
-fn copied(alloc: Global, name: Option<&Name>) -> Result<Option<Name>, Mem>
+/// A copy of the name, if there is one.
+pub(crate) fn copied(alloc: Global, name: Option<&Name>) -> Result<Option<Name>, Mem>
     ensures { IfOk result (λ o. o ≡ option_copied name.entry) }
 {
     match name {

@@ -1,5 +1,6 @@
 //! Arguments that are too large.
 ghost use Rattle.std.specs.Prelude.{◌≡◌, [], IfOk};
+ghost use Rattle.std.specs.Option.{option_copied};
 ghost use Rattle.sap_macro.specs.Order.{AreInOrder};
 ghost use Rattle.sap_macro.specs.Sources.{definition_of, definitions, written};
 ghost use Rattle.sap_uses.specs.UseCauses.{first_large};
@@ -7,10 +8,11 @@ ghost use Rattle.sap_macro.specs.Indexed.{AreIndexed};
 ghost use Rattle.sap_uses.specs.code.Met.{IsEntered, IsReached};
 ghost use Rattle.sap_uses.specs.code.Walks.{heavy, size_in};
 
+use crate::counts::copied;
 use crate::met::{Met, met_at};
 use crate::sizes::{Sizes, by_params, has_large};
 use sap_macro::{Definition, DefinitionList, Index, Source, index_of};
-use sap_terms::{Copied, Mem, Name, NameMap, TermList};
+use sap_terms::{Mem, Name, NameMap, TermList};
 use std::alloc::Global;
 
 /// Where a walk comes through uses.
@@ -62,22 +64,22 @@ fn behind_uses<'a>(
 }
 
 // The first use with a large argument, where names have these sizes. It recurses as deep as the expansion.
-fn large_in(
+fn large_in<'a>(
     alloc: Global,
-    defs: &DefinitionList,
+    defs: &'a DefinitionList,
     index: &Index,
     sizes: &Sizes,
-    source: &Source,
-) -> Result<Option<Name>, Mem>
+    source: &'a Source,
+) -> Result<Option<&'a Name>, Mem>
     requires order { AreInOrder [] (definitions defs.now) }
     requires index { AreIndexed (definitions defs.now) index.now }
-    ensures { IfOk result (λ o. o ≡ heavy (definitions defs.now) (size_in sizes.now) (written source.now)) }
+    ensures { IfOk result (λ o. option_copied o ≡ heavy (definitions defs.now) (size_in sizes.now) (written source.now)) }
 {
     match met_at(defs, index, source) {
         Met::Nothing => Ok(None),
         Met::Plain(p) | Met::One(p) => large_in(alloc, defs, index, sizes, p),
         Met::Use(d, args) => match behind_uses(alloc, defs, index, sizes, d, args)? {
-            Reached::Large(name) => Ok(Some(name.copy(alloc)?)),
+            Reached::Large(name) => Ok(Some(name)),
             Reached::Body(inner, at) => large_in(alloc, defs, index, &inner, at),
         },
         Met::Two(p, q) => match large_in(alloc, defs, index, sizes, p)? {
@@ -98,5 +100,6 @@ pub fn first_large(alloc: Global, defs: &DefinitionList, main: &Source) -> Resul
     let index = index_of(alloc, defs)?;
     let sizes = NameMap::new(alloc);
     let found = large_in(alloc, defs, &index, &sizes, main)?;
-    Ok(found)
+    let name = copied(alloc, found)?;
+    Ok(name)
 }

@@ -14,12 +14,14 @@ ghost use Rattle.sap_uses.specs.FaultCauses.{Holds, IsMacroCause};
 ghost use Rattle.sap_uses.specs.declared.fault.MacroFault.{MacroFault};
 
 use sap_macro::{plain_names_stand_for_bodies, plain_uses_have_parameters, sizes_are_one};
-use sap_process::some_scope_flaw;
+use sap_process::{one_scope_flaw, some_scope_flaw};
 
 /// A law: of definitions and a process at most one cause counts, with what it tells.
 pub fn one_macro_cause()
     ensures { (g : Sig) (ds : List Definition) (p : Written) (e f : MacroFault) → IsMacroCause g ds p e → IsMacroCause g ds p f → e ≡ f }
-{}
+{
+    one_scope_flaw();
+}
 
 /// A law: of definitions in order and a process a cause counts, or none holds.
 pub fn some_macro_cause()

@@ -11,7 +11,8 @@ use Rattle.sap_macro.specs.Seen.{seen}
 use Rattle.sap_macro.specs.UpToNames.{named}
 use Rattle.sap_macro.specs.Written.{Written, nil, call, parallel, replicated, act, test, lookup, Definition}
 use Rattle.sap_macro.specs.code.Standings.{choice_of, name_of}
-use Rattle.sap_macro.specs.code.Steps.{built, steps_in, plain_of}
+use Rattle.sap_macro.specs.Walked.{steps_in}
+use Rattle.sap_macro.specs.code.Steps.{built, plain_of}
 use Rattle.sap_macro.specs.declared.source.Below.{Below}
 use Rattle.sap_macro.specs.declared.source.Below.TheVariants.{Nothing, Use, One, Two}
 use Rattle.sap_macro.specs.declared.standing.Standing.{Standing}

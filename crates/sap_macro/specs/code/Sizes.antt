@@ -3,7 +3,7 @@ use Rattle.std.specs.Prelude.{ℕ, ◌+◌, ◌-◌, ◌^◌, max, min, List, []
 use Rattle.std.specs.Str.{bytes_eq}
 use Rattle.sap_terms.specs.NameMap.{value_at}
 use Rattle.sap_macro.specs.Written.{Written, nil, call, parallel, replicated, act, test, lookup, Definition}
-use Rattle.sap_macro.specs.code.Steps.{Cost}
+use Rattle.sap_macro.specs.Walked.{Cost}
 use Rattle.sap_macro.specs.declared.sizes.Size.{Size}
 
 -- the size of a process, where sizes of two parts are joined so

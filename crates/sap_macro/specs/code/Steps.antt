@@ -1,10 +1,10 @@
--- What a process means behind definitions, and how far a walk through it goes.
-use Rattle.std.specs.Prelude.{◌≡◌, ℕ, ◌+◌, List, [], ◌∷◌, if◌then◌else◌}
-use Rattle.std.specs.Str.{bytes_eq}
+-- What a process means behind definitions.
+use Rattle.std.specs.Prelude.{◌≡◌, ℕ, List}
 use Rattle.sap_terms.specs.Tree.{Tree}
 use Rattle.sap_macro.specs.Expansion.{Expanded, Meaning, Plain, expanded, meaning_of, plain_after, plain_bodies, with_uses, where_none, entered, expanded_as}
 use Rattle.sap_process.specs.Proc as whole
-use Rattle.sap_macro.specs.Written.{Written, nil, call, parallel, replicated, act, test, lookup, Definition}
+use Rattle.sap_macro.specs.Walked.{Cost, cost_of, steps}
+use Rattle.sap_macro.specs.Written.{Written, call, Definition}
 use Rattle.sap_macro.specs.code.Standings.{choice_of, name_of}
 use Rattle.sap_macro.specs.declared.standing.Standing.{Standing}
 
@@ -19,35 +19,6 @@ meaning_in ds = meaning_of (plain_bodies call ds)
 unfoldable pub built : List Definition → Standing → Written → List (List ℕ) → Expanded
 built ds s w taken =
     expanded (meaning_in ds) (choice_of s) (name_of s) (with_uses (plain_of ds) w) taken
-
--- how many steps a walk makes behind a name
-abbrev pub Cost : Type 0
-Cost = List ℕ → ℕ
-
--- how many it makes in a process
-abbrev pub steps : Cost → Written → ℕ
-steps c nil = 1
-steps c (call f ts) = c f + 1
-steps c (parallel p q) = steps c p + steps c q + 1
-steps c (replicated p) = steps c p + 1
-steps c (act a p) = steps c p + 1
-steps c (test t u p q) = steps c p + steps c q + 1
-steps c (lookup t x p q) = steps c p + steps c q + 1
-
--- behind one more definition, and behind these
-abbrev pub with_cost : Cost → Definition → Cost
-with_cost c d f = if bytes_eq d.name f then steps c d.body else c f
-
-abbrev pub cost_after : Cost → List Definition → Cost
-cost_after c [] = c
-cost_after c (d ∷ ds) = cost_after (with_cost c d) ds
-
-abbrev pub cost_of : List Definition → Cost
-cost_of ds = cost_after (λ f. 0) ds
-
--- the steps in a process behind these definitions
-unfoldable pub steps_in : List Definition → Written → ℕ
-steps_in ds w = steps (cost_of ds) w
 
 -- the name of a definition means its body, all of whose names are understood
 pub record IsResolvedBy (p : Plain) (m : Meaning) (c : Cost) (d : Definition) : Type 0 where

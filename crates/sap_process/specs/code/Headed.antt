@@ -1,8 +1,7 @@
 -- A head over what follows it.
 use Rattle.sap_terms.specs.Choice.{Choice, instance}
-use Rattle.sap_terms.specs.Tree.{Tree}
 use Rattle.sap_terms.specs.declared.var.Var.{Var}
-use Rattle.sap_process.specs.Action.{Action, delete, input, insert, lock, new, out, receive, send, unlock}
+use Rattle.sap_process.specs.Action.{Action, new}
 use Rattle.sap_process.specs.Instance.{action_instance}
 use Rattle.sap_process.specs.Proc.{Proc, parallel, replicated, act, test}
 
@@ -23,17 +22,3 @@ abbrev pub forked : Choice → Proc → Proc → Proc → Proc
 forked σ (parallel p q) r s = parallel r s
 forked σ (test t u p q) r s = test (instance σ t) (instance σ u) r s
 forked σ _ r s = r
-
--- the head of the process that has one term, with this one, over another process
-abbrev pub with_term : Proc → Tree → Proc → Proc
-with_term (act (out a) p) t q = act (out t) q
-with_term (act (input a) p) t q = act (input t) q
-with_term (act (lock a n) p) t q = act (lock t n) q
-with_term (act (unlock a n) p) t q = act (unlock t n) q
-with_term _ t q = act (delete t) q
-
--- the head that has two, with these
-abbrev pub with_terms : Proc → Tree → Tree → Proc → Proc
-with_terms (act (send a b) p) t u q = act (send t u) q
-with_terms (act (receive a b) p) t u q = act (receive t u) q
-with_terms _ t u q = act (insert t u) q

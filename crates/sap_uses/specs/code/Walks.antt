@@ -6,6 +6,7 @@ use Rattle.std.specs.Str.{bytes_eq}
 use Rattle.sap_terms.specs.NameMap.{value_at}
 use Rattle.sap_terms.specs.Tree.{Tree, variable, public, fresh, apply, Trees, none, more}
 use Rattle.sap_terms.specs.declared.limits.TheConstants.{MOST_TERM_NODES}
+use Rattle.sap_macro.specs.Walked.{Cost, cost_of, steps}
 use Rattle.sap_macro.specs.Written.{Written, nil, call, parallel, replicated, act, test, lookup, Definition}
 
 -- sizes of names
@@ -88,35 +89,6 @@ heavy_of ds = heavy_after none_heavy ds
 -- what the walk finds in a process behind these definitions
 unfoldable pub heavy : List Definition → Sizes → Written → Option (List ℕ)
 heavy ds z w = heavy_in (heavy_of ds) z w
-
--- how many steps a walk makes behind a name
-abbrev pub Cost : Type 0
-Cost = List ℕ → ℕ
-
--- how many it makes in a process
-abbrev pub steps : Cost → Written → ℕ
-steps c nil = 1
-steps c (call f ts) = c f + 1
-steps c (parallel p q) = steps c p + steps c q + 1
-steps c (replicated p) = steps c p + 1
-steps c (act a p) = steps c p + 1
-steps c (test t u p q) = steps c p + steps c q + 1
-steps c (lookup t x p q) = steps c p + steps c q + 1
-
--- behind one more definition, and behind these
-abbrev pub with_cost : Cost → Definition → Cost
-with_cost c d f = if bytes_eq d.name f then steps c d.body else c f
-
-abbrev pub cost_after : Cost → List Definition → Cost
-cost_after c [] = c
-cost_after c (d ∷ ds) = cost_after (with_cost c d) ds
-
-abbrev pub cost_of : List Definition → Cost
-cost_of ds = cost_after (λ f. 0) ds
-
--- the steps in a process behind these definitions
-unfoldable pub steps_in : List Definition → Written → ℕ
-steps_in ds w = steps (cost_of ds) w
 
 -- the name of a definition stands for its body, all of whose names are understood
 pub record IsResolvedBy (m : Heavy) (c : Cost) (d : Definition) : Type 0 where

@@ -1,6 +1,7 @@
 use Rattle.std.proofs.Common.{◌≤◌, ap, ◌∙◌, subst, arith}
 use Rattle.sap_macro.specs.Sources.{definition_of, definitions, written}
-use Rattle.sap_macro.specs.code.Steps.{built, steps_in}
+use Rattle.sap_macro.specs.Walked.{steps_in}
+use Rattle.sap_macro.specs.code.Steps.{built}
 use Rattle.sap_macro.proofs.Built.{built_same, built_use, steps_use}
 use Rattle.sap_macro.proofs.building.passed.Goals as goal
 

@@ -1,7 +1,8 @@
 use Rattle.std.proofs.Common.{◌≡◌, ◌<◌}
 use Rattle.sap_macro.specs.Sources.{definitions, written}
 use Rattle.sap_macro.specs.Written.{call}
-use Rattle.sap_macro.specs.code.Steps.{built, steps_in, IsFormed}
+use Rattle.sap_macro.specs.Walked.{steps_in}
+use Rattle.sap_macro.specs.code.Steps.{built, IsFormed}
 use Rattle.sap_macro.proofs.building.reached.Given as goal
 
 abbrev pub invariant-loop-at : goal.invariant-loop-at

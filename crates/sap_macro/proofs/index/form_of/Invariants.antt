@@ -1,7 +1,8 @@
 use Rattle.std.proofs.Common.{◌≡◌, ◌≤◌}
 use Rattle.sap_macro.specs.Expansion.{with_uses}
 use Rattle.sap_macro.specs.Sources.{definitions, written}
-use Rattle.sap_macro.specs.code.Steps.{plain_of, steps_in}
+use Rattle.sap_macro.specs.Walked.{steps_in}
+use Rattle.sap_macro.specs.code.Steps.{plain_of}
 use Rattle.sap_macro.proofs.index.form_of.Given as goal
 
 abbrev pub invariant-loop-form : goal.invariant-loop-form

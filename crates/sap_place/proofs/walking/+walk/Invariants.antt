@@ -17,17 +17,5 @@ decreases-walk_both l = 8 * (node_count (proc l.q.now) + node_count (proc l.r.no
 abbrev pub decreases-walk_branches : goal.decreases-walk_branches
 decreases-walk_branches l = 8 * (node_count (proc l.q.now) + node_count (proc l.r.now)) + 6
 
-abbrev pub decreases-walk_with : goal.decreases-walk_with
-decreases-walk_with l = 8 * node_count (proc l.q.now) + 5
-
-abbrev pub decreases-walk_pattern : goal.decreases-walk_pattern
-decreases-walk_pattern l = 8 * node_count (proc l.q.now) + 5
-
-abbrev pub decreases-walk_rule : goal.decreases-walk_rule
-decreases-walk_rule l = 8 * node_count (proc l.q.now) + 5
-
-abbrev pub decreases-walk_locked : goal.decreases-walk_locked
-decreases-walk_locked l = 8 * node_count (proc l.q.now) + 5
-
-abbrev pub decreases-walk_unlocked : goal.decreases-walk_unlocked
-decreases-walk_unlocked l = 8 * node_count (proc l.q.now) + 5
+abbrev pub decreases-walk_next : goal.decreases-walk_next
+decreases-walk_next l = 8 * node_count (proc l.q.now) + 5

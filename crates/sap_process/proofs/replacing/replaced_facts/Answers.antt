@@ -1,6 +1,6 @@
 use Rattle.std.proofs.Common.{refl}
 use Rattle.sap_terms.specs.Modulo.{instance_fact}
-use Rattle.sap_process.proofs.OtherNames.{map_got}
+use Rattle.sap_terms.proofs.PlainLaws.Lists.{map_got}
 use Rattle.sap_process.proofs.replacing.replaced_facts.Goals as goal
 
 pub loop-k-preserved : goal.loop-k-preserved

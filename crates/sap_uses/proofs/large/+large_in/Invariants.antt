@@ -1,5 +1,5 @@
 use Rattle.sap_macro.specs.Sources.{definitions, written}
-use Rattle.sap_uses.specs.code.Walks.{steps_in}
+use Rattle.sap_macro.specs.Walked.{steps_in}
 use Rattle.sap_uses.proofs.large.+large_in.Given as goal
 
 abbrev pub decreases-large_in : goal.decreases-large_in
