@@ -9,7 +9,7 @@ use sap_text::Token;
 use std::alloc::Global;
 
 // What the next word of a process is.
-#[derive(Clone, Copy, Debug, PartialEq, Eq)]
+#[derive(Clone, Copy)]
 enum Next {
     // Its first.
     Head,

@@ -2,7 +2,7 @@
 use sap_terms::{MOST_PROCESS_LEVELS, MOST_TERM_LEVELS};
 
 /// What a part is.
-#[derive(Clone, Copy, Debug, PartialEq, Eq)]
+#[derive(Clone, Copy, PartialEq, Eq)]
 pub(crate) enum Kind {
     /// No process and no formula.
     Outside,

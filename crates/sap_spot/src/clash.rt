@@ -1,9 +1,9 @@
 //! The first fact of a process that stands otherwise than before it.
+use crate::found::Found;
 use crate::heads::head_of;
-use crate::preorder::{next, start};
-use crate::spot::{Form, form_at};
+use crate::preorder::{Visit, next, start};
+use crate::spot::{Form, Spot, form_at};
 use crate::words::{Words, terms_behind};
-use sap_found::Found;
 use sap_terms::{MOST_PROCESS_PLACES, Mem, Name, NameMap};
 
 /// How a fact is written: with how many terms, and whether it is persistent.
@@ -71,23 +71,43 @@ impl Met {
     }
 }
 
-/// The first fact of the file's process that is written otherwise than before: with another number of terms or, if stored, another sign.
-pub(crate) fn clashing_fact(words: &Words) -> Result<Option<Found>, Mem> {
-    let mut met = Met {
-        stored: NameMap::new(words.alloc),
-        shown: NameMap::new(words.alloc),
-        heads: Vec::from_elem(words.alloc, false, words.tokens.len())?,
-    };
-    let mut pending = start(words)?;
+// The first such fact of the head of this place.
+fn clash_at(words: &Words, met: &mut Met, spot: Spot) -> Result<Option<Found>, Mem> {
+    match form_at(words, spot) {
+        Form::Action => match met.meet_head(words, spot.at)? {
+            Some(word) => Ok(Some(spot.found(word))),
+            None => Ok(None),
+        },
+        _ => Ok(None),
+    }
+}
+
+// The first of the places that are still to be visited, and of those below them.
+fn clash_below(
+    words: &Words,
+    met: &mut Met,
+    pending: &mut Vec<Visit>,
+) -> Result<Option<Found>, Mem> {
     for _ in 0..MOST_PROCESS_PLACES {
-        let Some(visit) = next(words, &mut pending)? else {
+        let Some(visit) = next(words, pending)? else {
             return Ok(None);
         };
-        if let Form::Action = form_at(words, visit.spot) {
-            if let Some(word) = met.meet_head(words, visit.spot.at)? {
-                return Ok(Some(visit.spot.found(word)));
-            }
+        let found = clash_at(words, met, visit.spot)?;
+        if found.is_some() {
+            return Ok(found);
         }
     }
     Ok(None)
+}
+
+/// The first fact of the file's process that is written otherwise than before: with another number of terms or, if stored, another sign.
+pub(crate) fn clashing_fact(words: &Words) -> Result<Option<Found>, Mem> {
+    let heads = Vec::from_elem(words.alloc, false, words.tokens.len())?;
+    let mut met = Met {
+        stored: NameMap::new(words.alloc),
+        shown: NameMap::new(words.alloc),
+        heads,
+    };
+    let mut pending = start(words)?;
+    clash_below(words, &mut met, &mut pending)
 }

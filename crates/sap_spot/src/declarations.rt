@@ -46,19 +46,31 @@ fn add(words: &Words, item: usize, k: usize, sig: &mut Signature) -> Result<(), 
     }
 }
 
-/// The first name of a function, or first word of a builtin, that is declared otherwise than before.
-pub(crate) fn clashing_declaration(words: &Words) -> Result<Option<usize>, Mem> {
-    let mut sig = Signature::new(words.alloc)?;
+// The same; whether it disagrees with what is declared.
+fn clashes(words: &Words, item: usize, k: usize, sig: &mut Signature) -> Result<bool, Mem> {
+    match add(words, item, k, sig) {
+        Ok(()) => Ok(false),
+        Err(SigFault::Clash { .. }) => Ok(true),
+        Err(SigFault::Mem) => Err(Mem),
+    }
+}
+
+// The first word that disagrees with what is declared.
+fn first_clash(words: &Words, sig: &mut Signature) -> Result<Option<usize>, Mem> {
     let mut item: usize = 0;
     for k in 0..words.tokens.len() {
         if words.begins_item(k) {
             item = k;
         }
-        match add(words, item, k, &mut sig) {
-            Ok(()) => {}
-            Err(SigFault::Clash { .. }) => return Ok(Some(k)),
-            Err(SigFault::Mem) => return Err(Mem),
+        if clashes(words, item, k, sig)? {
+            return Ok(Some(k));
         }
     }
     Ok(None)
+}
+
+/// The first name of a function, or first word of a builtin, that is declared otherwise than before.
+pub(crate) fn clashing_declaration(words: &Words) -> Result<Option<usize>, Mem> {
+    let mut sig = Signature::new(words.alloc)?;
+    first_clash(words, &mut sig)
 }

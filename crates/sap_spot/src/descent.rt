@@ -1,10 +1,11 @@
 //! From the path of a place to the word that a flaw or a lock names there.
 use crate::clash::clashing_fact;
 use crate::flaws::flawed_word;
+use crate::found::Found;
+use crate::layout::Definition;
 use crate::scope::Scope;
 use crate::spot::{Spot, below, called, form_at, head_word, process_at, settled};
 use crate::words::Words;
-use sap_found::Found;
 use sap_process::Flaw;
 use sap_terms::{Mem, Name, Path};
 
@@ -63,6 +64,21 @@ fn flawed_here(
     Ok(scope.beyond)
 }
 
+// The word that the flaw names at the place of this path below this process, or, without a flaw, by which the place is told.
+fn found_below(
+    words: &Words,
+    scope: &mut Scope,
+    root: Spot,
+    flaw: Option<Flaw>,
+    path: &Path,
+) -> Result<Option<Found>, Mem> {
+    match (descended(words, scope, root, path)?, flaw) {
+        (None, _) => Ok(None),
+        (Some(spot), None) => Ok(Some(head_word(words, spot))),
+        (Some(spot), Some(flaw)) => flawed_here(words, scope, spot, flaw),
+    }
+}
+
 /// The word that the flaw names at the place of this path, or with which too much is in its scope; without a flaw the word by which
 /// the place is told, its first or the sign of a parallel.
 pub(crate) fn found_at(
@@ -73,13 +89,21 @@ pub(crate) fn found_at(
     if flaw == Some(Flaw::FactClash) {
         return clashing_fact(words);
     }
-    let mut scope = Scope::new(words.alloc);
     let root = process_at(words, words.layout.start)?;
-    match (descended(words, &mut scope, root, path)?, flaw) {
-        (None, _) => Ok(None),
-        (Some(spot), None) => Ok(Some(head_word(words, spot))),
-        (Some(spot), Some(flaw)) => flawed_here(words, &mut scope, spot, flaw),
-    }
+    let mut scope = Scope::new(words.alloc);
+    found_below(words, &mut scope, root, flaw, path)
+}
+
+// The word that the flaw names at the place of this path in the definition, where its parameters aren't bound yet.
+fn found_in_body(
+    words: &Words,
+    scope: &mut Scope,
+    definition: Definition,
+    flaw: Flaw,
+    path: &Path,
+) -> Result<Option<Found>, Mem> {
+    scope.bind_parameters(words, definition.item)?;
+    found_below(words, scope, definition.body, Some(flaw), path)
 }
 
 /// The word that the flaw names at the place of this path in the process that this name is defined as.
@@ -93,9 +117,5 @@ pub(crate) fn found_in(
         return Ok(None);
     };
     let mut scope = Scope::new(words.alloc);
-    scope.bind_parameters(words, definition.item)?;
-    match descended(words, &mut scope, definition.body, path)? {
-        Some(spot) => flawed_here(words, &mut scope, spot, flaw),
-        None => Ok(None),
-    }
+    found_in_body(words, &mut scope, definition, flaw, path)
 }

@@ -12,13 +12,14 @@ pub(crate) struct Definition {
 }
 
 /// The process of a file by the number of its first word; what names are defined as; the names by which processes are used, in
-/// definitions and in the file's process. The partner of an `if` or a `lookup` is its `else`; that of what stands before a parallel is the
+/// definitions and behind them in the file's process. The partner of an `if` or a `lookup` is its `else`; that of what stands before a parallel is the
 /// sign of the parallel. Others have the partner 0. A word of a head has the end of that.
 #[derive(Drop)]
 pub(crate) struct Layout {
     pub(crate) start: usize,
     definitions: NameMap<Definition>,
     pub(crate) uses: Vec<usize>,
+    late_uses: Vec<usize>,
     partners: Vec<usize>,
     ends: Vec<usize>,
 }
@@ -30,6 +31,7 @@ impl Layout {
             start: 0,
             definitions: NameMap::new(alloc),
             uses: Vec::new(alloc),
+            late_uses: Vec::new(alloc),
             partners: Vec::new(alloc),
             ends: Vec::new(alloc),
         }
@@ -46,6 +48,29 @@ impl Layout {
     /// The word behind the head in which this word stands: behind the terms and facts of an action, an `if` or a `lookup`.
     pub(crate) fn end(&self, k: usize) -> usize {
         self.ends.get(k).copied().unwrap_or(0)
+    }
+
+    // Keeps that a process is used by this word, in a definition or in the file's process.
+    fn keep_use(&mut self, in_definition: bool, k: usize) -> Result<(), Mem> {
+        if in_definition {
+            self.uses.push(k)?;
+        } else {
+            self.late_uses.push(k)?;
+        }
+        Ok(())
+    }
+
+    // The uses in the file's process come behind those in definitions.
+    fn join_uses(&mut self) -> Result<(), Mem> {
+        self.uses.extend_from_slice(self.late_uses.as_slice())?;
+        Ok(())
+    }
+
+    // Keeps of one word more that it stands in a head before this word, or in none.
+    fn keep_end(&mut self, behind: usize) -> Result<(), Mem> {
+        self.partners.push(0)?;
+        self.ends.push(behind)?;
+        Ok(())
     }
 
     /// What this name is defined as.
@@ -134,38 +159,75 @@ fn meet(words: &Words, k: usize, open: &mut Vec<usize>, layout: &mut Layout) -> 
     Ok(())
 }
 
-/// How the processes lie of a file that is made of items. The time is linear in its words, but for names, which are looked up.
-pub(crate) fn layout_of(words: &Words) -> Result<Layout, Mem> {
-    let mut layout = Layout::new(words.alloc);
-    let (mut open, mut late) = (Vec::new(words.alloc), Vec::new(words.alloc));
-    let (mut item, mut has_process, mut behind) = (0, false, 0);
+// Where a pass over the words is: in the item that begins with this word, which may have a process; the head that was met last ends
+// before that word.
+#[derive(Clone, Copy)]
+struct Pass {
+    item: usize,
+    has_process: bool,
+    behind: usize,
+}
+
+// Goes on to the item that begins with this word, when all of the one before was met.
+fn begin_item(
+    words: &Words,
+    k: usize,
+    pass: &mut Pass,
+    open: &mut Vec<usize>,
+    layout: &mut Layout,
+) -> Result<(), Mem> {
+    layout.enter(words, pass.item)?;
+    open.clear();
+    pass.item = k;
+    pass.has_process = words.is(k, "process") || words.is(k, "let");
+    Ok(())
+}
+
+// Meets this word, which stands in the head of no process before it.
+fn meet_outside(
+    words: &Words,
+    k: usize,
+    pass: &mut Pass,
+    open: &mut Vec<usize>,
+    layout: &mut Layout,
+) -> Result<(), Mem> {
+    let begins = pass.has_process && !open.is_empty();
+    if begins && words.begins_head(k) {
+        pass.behind = head_end(words, k);
+    }
+    if begins && words.name(k).is_some() && !words.is(k.saturating_sub(1), "as") {
+        layout.keep_use(words.is(pass.item, "let"), k)?;
+    }
+    layout.keep_end(pass.behind)?;
+    if words.begins_item(k) {
+        begin_item(words, k, pass, open, layout)
+    } else if pass.has_process {
+        meet(words, k, open, layout)
+    } else {
+        Ok(())
+    }
+}
+
+// Meets all words.
+fn meet_all(words: &Words, open: &mut Vec<usize>, layout: &mut Layout) -> Result<(), Mem> {
+    let mut pass = Pass {
+        item: 0,
+        has_process: false,
+        behind: 0,
+    };
     for k in 0..words.tokens.len() {
-        let in_head = k < behind;
-        let begins = has_process && !in_head && !open.is_empty();
-        if begins && words.begins_head(k) {
-            behind = head_end(words, k);
-        }
-        if begins && words.name(k).is_some() && !words.is(k.saturating_sub(1), "as") {
-            if words.is(item, "let") {
-                layout.uses.push(k)?;
-            } else {
-                late.push(k)?;
-            }
-        }
-        layout.partners.push(0)?;
-        layout.ends.push(behind)?;
-        if !in_head && words.begins_item(k) {
-            layout.enter(words, item)?;
-            open.clear();
-            item = k;
-            has_process = words.is(k, "process") || words.is(k, "let");
-        } else if !in_head && has_process {
-            meet(words, k, &mut open, &mut layout)?;
+        if k < pass.behind {
+            layout.keep_end(pass.behind)?;
+        } else {
+            meet_outside(words, k, &mut pass, open, layout)?;
         }
     }
-    layout.enter(words, item)?;
-    for k in late {
-        layout.uses.push(k)?;
-    }
-    Ok(layout)
+    layout.enter(words, pass.item)?;
+    layout.join_uses()
+}
+
+/// How the processes lie of a file that is made of items. The time is linear in its words, but for names, which are looked up.
+pub(crate) fn lay_out(words: &Words, layout: &mut Layout) -> Result<(), Mem> {
+    let mut open = Vec::new(words.alloc);
+    meet_all(words, &mut open, layout)
 }

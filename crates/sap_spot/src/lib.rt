@@ -1,4 +1,4 @@
-//! Which word of a file a cause speaks of for which the file is refused.
+//! Of which words of a file a cause can speak for which the file is refused, and which of them it is.
 #![tactic(auto)]
 
 mod clash;
@@ -6,7 +6,10 @@ mod declarations;
 mod descent;
 mod flaws;
 mod formulas;
+mod found;
 mod heads;
+mod items;
+mod laws;
 mod layout;
 mod preorder;
 mod scope;
@@ -15,4 +18,7 @@ mod spot;
 mod uses;
 mod words;
 
+pub use found::{Found, can_speak_of};
+pub use items::{begins_definition, begins_item, begins_statement, has_name};
+pub use laws::words_by_hand;
 pub use search::word_of;

@@ -1,8 +1,8 @@
 //! Which variables the places above a place bind.
+use crate::found::Found;
 use crate::heads::{Part, binder_at, head_of, one, used_and_patterns, variable_at};
 use crate::spot::{Form, Spot};
 use crate::words::Words;
-use sap_found::Found;
 use sap_terms::{MOST_SCOPE_NAMES, Mem, Name, NameMap, Sort, Var};
 use std::alloc::Global;
 use std::mem;

@@ -1,19 +1,19 @@
 //! The word of a file of which a cause speaks.
 ghost use Rattle.std.specs.Prelude.{IfOk, IfSome};
-ghost use Rattle.sap_found.specs.Found.{IsWordOf};
+ghost use Rattle.sap_spot.specs.Found.{IsWordOf};
 
 use crate::declarations::clashing_declaration;
 use crate::descent::{found_at, found_in};
 use crate::formulas::faulty_word;
-use crate::layout::{Layout, layout_of};
+use crate::found::{Found, can_speak_of};
+use crate::layout::{Layout, lay_out};
 use crate::preorder::first_beyond;
 use crate::uses::{longest_use, second_parameter, wrong_count};
 use crate::words::Words;
-use sap_found::{Found, can_speak_of};
 use sap_grammar::read_declarations;
 use sap_locks::LockFault;
 use sap_read::ReadFault;
-use sap_terms::Mem;
+use sap_terms::{Mem, Signature};
 use sap_text::Token;
 use std::alloc::Global;
 
@@ -25,33 +25,75 @@ fn alone(word: Option<usize>) -> Option<Found> {
     }
 }
 
-// The word of a process.
-fn in_process(bare: Words, fault: &ReadFault) -> Result<Option<Found>, Mem> {
-    let layout = layout_of(&bare)?;
-    let words = Words {
-        layout: &layout,
-        ..bare
-    };
+// The word of a process, which lies as `words` has it.
+fn in_layout(words: &Words, fault: &ReadFault) -> Result<Option<Found>, Mem> {
     match fault {
-        ReadFault::TooMany => first_beyond(&words, false),
-        ReadFault::TooDeep => first_beyond(&words, true),
-        ReadFault::Ill { which, path } => found_at(&words, Some(*which), path),
-        ReadFault::Flawed { name, which, path } => found_in(&words, name, *which, path),
-        ReadFault::Arguments { name } => Ok(alone(wrong_count(&words, name.as_bytes())?)),
-        ReadFault::Large { name } => Ok(alone(longest_use(&words, name.as_bytes()))),
-        ReadFault::Lock(LockFault::UnlockWithoutLock { path }) => found_at(&words, None, path),
-        ReadFault::Lock(LockFault::LockOverParallel { path }) => found_at(&words, None, path),
+        ReadFault::TooMany => first_beyond(words, false),
+        ReadFault::TooDeep => first_beyond(words, true),
+        ReadFault::Ill { which, path } => found_at(words, Some(*which), path),
+        ReadFault::Flawed { name, which, path } => found_in(words, name, *which, path),
+        ReadFault::Arguments { name } => Ok(alone(wrong_count(words, name.as_bytes())?)),
+        ReadFault::Large { name } => Ok(alone(longest_use(words, name.as_bytes()))),
+        ReadFault::Lock(LockFault::UnlockWithoutLock { path }) => found_at(words, None, path),
+        ReadFault::Lock(LockFault::LockOverParallel { path }) => found_at(words, None, path),
         _ => Ok(None),
     }
 }
 
+// The word of a process.
+fn in_process(bare: &Words, fault: &ReadFault) -> Result<Option<Found>, Mem> {
+    let mut layout = Layout::new(bare.alloc);
+    lay_out(bare, &mut layout)?;
+    let words = Words {
+        layout: &layout,
+        ..*bare
+    };
+    in_layout(&words, fault)
+}
+
 // The word, which nothing is said of yet.
-fn sought(words: Words, fault: &ReadFault) -> Result<Option<Found>, Mem> {
+fn sought(words: &Words, fault: &ReadFault) -> Result<Option<Found>, Mem> {
     match fault {
-        ReadFault::FunctionClash { .. } => Ok(alone(clashing_declaration(&words)?)),
-        ReadFault::Parameters { name } => Ok(alone(second_parameter(&words, name.as_bytes()))),
-        ReadFault::Formula { name, fault } => Ok(alone(faulty_word(&words, name, fault)?)),
+        ReadFault::FunctionClash { .. } => Ok(alone(clashing_declaration(words)?)),
+        ReadFault::Parameters { name } => Ok(alone(second_parameter(words, name.as_bytes()))),
+        ReadFault::Formula { name, fault } => Ok(alone(faulty_word(words, name, fault)?)),
         _ => in_process(words, fault),
+    }
+}
+
+// The same of tokens that declare this signature.
+fn sought_among(
+    alloc: Global,
+    bytes: &[u8],
+    tokens: &[Token],
+    sig: &Signature,
+    fault: &ReadFault,
+) -> Result<Option<Found>, Mem> {
+    let nothing = Layout::new(alloc);
+    let words = Words {
+        alloc,
+        bytes,
+        tokens,
+        sig,
+        layout: &nothing,
+        expands: !matches!(fault, ReadFault::Flawed { .. }),
+    };
+    sought(&words, fault)
+}
+
+// The same, where the cause can speak of it.
+fn spoken_of(
+    alloc: Global,
+    bytes: &[u8],
+    tokens: &[Token],
+    sig: &Signature,
+    fault: &ReadFault,
+) -> Result<Option<Found>, Mem>
+    ensures { IfOk result (λ o. IfSome o (λ f. IsWordOf bytes.now tokens.now fault.now f)) }
+{
+    match sought_among(alloc, bytes, tokens, sig, fault)? {
+        Some(found) if can_speak_of(bytes, tokens, fault, found) => Ok(Some(found)),
+        _ => Ok(None),
     }
 }
 
@@ -68,17 +110,5 @@ pub fn word_of(
     ensures { IfOk result (λ o. IfSome o (λ f. IsWordOf bytes.now tokens.now fault.now f)) }
 {
     let declared = read_declarations(alloc, bytes, tokens)?;
-    let nothing = Layout::new(alloc);
-    let words = Words {
-        alloc,
-        bytes,
-        tokens,
-        sig: &declared.signature,
-        layout: &nothing,
-        expands: !matches!(fault, ReadFault::Flawed { .. }),
-    };
-    match sought(words, fault)? {
-        Some(found) if can_speak_of(bytes, tokens, fault, found) => Ok(Some(found)),
-        _ => Ok(None),
-    }
+    spoken_of(alloc, bytes, tokens, &declared.signature, fault)
 }

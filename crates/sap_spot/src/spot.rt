@@ -1,7 +1,7 @@
 //! Places of a process in the words that spell it.
+use crate::found::Found;
 use crate::layout::Definition;
 use crate::words::Words;
-use sap_found::Found;
 use sap_grammar::{beyond, starts_zero};
 use sap_terms::Mem;
 

@@ -1,6 +1,6 @@
 //! The words of a file by their numbers.
+use crate::items::{begins_item, has_name};
 use crate::layout::Layout;
-use sap_found::{begins_item, has_name};
 use sap_grammar::{beyond, is_lower, name_at};
 use sap_terms::Signature;
 use sap_text::Token;
@@ -35,6 +35,17 @@ impl<'a> Words<'a> {
         self.text(k) == mark.as_bytes()
     }
 
+    // Whether it is one of these.
+    fn is_one_of(&self, k: usize, marks: &[&str]) -> bool {
+        let text = self.text(k);
+        for mark in marks {
+            if text == mark.as_bytes() {
+                return true;
+            }
+        }
+        false
+    }
+
     /// The name that stands there.
     pub(crate) fn name(&self, k: usize) -> Option<&'a [u8]> {
         name_at(self.bytes, beyond(k, self.tokens))
@@ -57,19 +68,19 @@ impl<'a> Words<'a> {
 
     /// Whether it begins the head of an action, a choice or a use with arguments: the `in` of a look-up doesn't.
     pub(crate) fn begins_head(&self, k: usize) -> bool {
-        match self.text(k) {
-            b"new" | b"out" | b"event" | b"insert" | b"delete" | b"lock" | b"unlock" | b"[" => true,
-            b"in" => !self.is(k.saturating_sub(2), "as"),
-            _ => self.is_choice(k) || self.is_use(k),
+        if self.is(k, "in") {
+            return !self.is(k.saturating_sub(2), "as");
         }
+        let actions = [
+            "new", "out", "event", "insert", "delete", "lock", "unlock", "[",
+        ];
+        self.is_one_of(k, &actions) || self.is_choice(k) || self.is_use(k)
     }
 
     /// Whether nothing of a head stands from this word on, outside of parentheses.
     pub(crate) fn ends_head(&self, k: usize) -> bool {
-        match self.text(k) {
-            b";" | b")" | b"|" | b"||" | b"then" | b"else" | b"as" => true,
-            _ => self.begins_item(k),
-        }
+        let ends = [";", ")", "|", "||", "then", "else", "as"];
+        self.is_one_of(k, &ends) || self.begins_item(k)
     }
 
     /// Whether a parenthesis opens behind word number k.

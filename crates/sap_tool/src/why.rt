@@ -9,7 +9,7 @@ ghost use Rattle.sap_tool.specs.Call.{call_of};
 ghost use Rattle.sap_tool.specs.Commands.{explain, spelled};
 ghost use Rattle.sap_tool.specs.WhyTexts.{IsWhyText, accepted_text, long_text};
 ghost use Rattle.sap_tool.specs.code.Endings.{Ends, EndsFile};
-ghost use Rattle.sap_why.specs.Explained.{IsExplanation};
+ghost use Rattle.sap_where.specs.Explained.{IsExplanation};
 
 use crate::ending::Ending;
 use crate::reading::MOST_BYTES;
@@ -18,7 +18,7 @@ use sap_read::{ReadFault, read_file_boxed};
 use sap_refusals::{file_line, long_file_line};
 use sap_terms::Mem;
 use sap_text::Text;
-use sap_why::{length_advice, push_explanation};
+use sap_where::{length_advice, push_explanation};
 use std::alloc::Global;
 
 /// Ends with whether a file is accepted, or why not.

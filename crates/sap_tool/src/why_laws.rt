@@ -5,10 +5,10 @@ ghost use Rattle.sap_read.specs.Files.{IsRead};
 ghost use Rattle.sap_read.specs.declared.fault.ReadFault.{ReadFault};
 ghost use Rattle.sap_tool.specs.Commands.{Allows, Input, Refuses, RefusesRun, TakesRun, and_run, explain, run_alone, spelled};
 ghost use Rattle.sap_tool.specs.WhyTexts.{IsWhyText};
-ghost use Rattle.sap_why.specs.Explained.{IsSettled};
+ghost use Rattle.sap_where.specs.Explained.{IsSettled};
 
 use sap_read::one_file;
-use sap_why::one_explanation;
+use sap_where::one_explanation;
 
 /// A law: of some bytes one text is told, unless they are refused for a cause whose place isn't defined by the words of the file (`IsSettled`); then
 /// one line tells that cause.

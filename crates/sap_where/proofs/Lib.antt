@@ -9,3 +9,4 @@ pub mod PlacesByHand
 pub mod Pieces
 pub mod ItemPlace
 pub mod NextUse
+pub mod Telling

@@ -4,4 +4,7 @@ pub mod Uses
 pub mod Where
 pub mod Told
 pub mod PlaceExamples
+pub mod Advice
+pub mod Explained
+pub mod ExplainedExamples
 pub mod code

@@ -1,19 +1,15 @@
 -- In which piece of a file a word stands: the words behind the header are cut into pieces, each of which has to be an item.
-use Rattle.std.specs.Prelude.{◌≡◌, ◌≤◌, ◌<◌, ℕ, Bool, true, false, ◌||◌, ◌==◌, List, [], ◌∷◌, length, drop}
+use Rattle.std.specs.Prelude.{◌≡◌, ◌≤◌, ◌<◌, ℕ, true, ◌||◌, ◌==◌, List, length, drop}
 use Rattle.sap_text.specs.declared.token.Token.{Token}
-use Rattle.sap_grammar.specs.Words.{Word, words_of}
-use Rattle.sap_grammar.specs.Cut.{first_line, is_item_word, last_line, placed}
-
--- the first word begins items
-abbrev pub starts_item : List Word → Bool
-starts_item [] = false
-starts_item (w ∷ ws) = is_item_word w
+use Rattle.sap_grammar.specs.Words.{words_of}
+use Rattle.sap_grammar.specs.Cut.{first_line, last_line, placed}
+use Rattle.sap_spot.specs.Found.{begins_item}
 
 -- a piece begins with token k: the first behind the three of the header, or a later one whose word begins items
 pub record BeginsPiece (z : List ℕ) (ts : List Token) (k : ℕ) : Type 0 where
   pub behind : 3 ≤ k
   pub inside : k < length ts
-  pub is : (k == 3 || starts_item (words_of z (drop k ts))) ≡ true
+  pub is : (k == 3 || begins_item (words_of z (drop k ts))) ≡ true
 
 -- token k stands on this line
 abbrev pub IsOnLine : List ℕ → List Token → ℕ → ℕ → Type 0

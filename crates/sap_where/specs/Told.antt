@@ -7,8 +7,8 @@ use Rattle.sap_read.specs.declared.fault.ReadFault.TheVariants.{Syntax}
 use Rattle.sap_grammar.specs.Words.{words_of}
 use Rattle.sap_expect.specs.FileTable.{FollowsTable}
 use Rattle.sap_where.specs.Pieces.{CanBeOf}
-use Rattle.sap_found.specs.Found.{IsWordOf}
-use Rattle.sap_found.specs.declared.found.Found.{Found}
+use Rattle.sap_spot.specs.Found.{IsWordOf}
+use Rattle.sap_spot.specs.declared.found.Found.{Found}
 use Rattle.sap_where.specs.declared.told.Told.{Told}
 use Rattle.sap_where.specs.Where.{IsWhere, stretch_at}
 

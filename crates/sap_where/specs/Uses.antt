@@ -3,7 +3,7 @@ use Rattle.std.specs.Prelude.{◌≡◌, ◌<◌, ℕ, zero, suc, ◌-◌, Bool,
 use Rattle.sap_text.specs.declared.token.Token.{Token}
 use Rattle.sap_grammar.specs.Words.{words_of, starts}
 use Rattle.sap_grammar.specs.Reading.{name_at, names}
-use Rattle.sap_found.specs.Found.{begins_item}
+use Rattle.sap_spot.specs.Found.{begins_item}
 
 -- token number k is this symbol or reserved word; it is a name
 abbrev pub stands : List ℕ → List Token → List ℕ → ℕ → Bool

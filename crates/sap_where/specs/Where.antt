@@ -1,10 +1,10 @@
 -- Where in a file the cause stands for which it is refused.
-use Rattle.std.specs.Prelude.{◌≡◌, ◌<◌, ◌+◌, ℕ, Bool, true, ◌&&◌, ◌||◌, codes, List, [], ◌∷◌, length, drop, slice_get, Option, Some, None}
+use Rattle.std.specs.Prelude.{◌≡◌, ◌<◌, ◌+◌, ℕ, Bool, true, codes, List, [], ◌∷◌, length, drop, slice_get, Option, Some, None}
 use Rattle.sap_text.specs.declared.fault.Lex.{Lex}
 use Rattle.sap_text.specs.declared.fault.Lex.TheVariants as lex
 use Rattle.sap_text.specs.declared.token.Token.{Token}
 use Rattle.sap_grammar.specs.Words.{Word, mark, name, words_of, starts}
-use Rattle.sap_grammar.specs.Reading.{names}
+use Rattle.sap_spot.specs.Found.{begins_definition, begins_statement}
 use Rattle.sap_read.specs.Files.{AreTokens}
 use Rattle.sap_read.specs.declared.fault.ReadFault.{ReadFault}
 use Rattle.sap_read.specs.declared.fault.ReadFault.TheVariants.{Lex as LexFault, Header, Syntax, TwoProcesses, UnknownProcess, DuplicateName}
@@ -54,8 +54,8 @@ pub record StartsFile (ws : List Word) : Type 0 where
 -- a restriction or a lemma
 abbrev pub begins : Beginning → List ℕ → List Word → Bool
 begins Process x ws = starts (codes "process") ws
-begins Definition x ws = starts (codes "let") ws && names x (drop 1 ws)
-begins Statement x ws = (starts (codes "restriction") ws || starts (codes "lemma") ws) && names x (drop 1 ws)
+begins Definition x ws = begins_definition x ws
+begins Statement x ws = begins_statement x ws
 
 -- such an item begins with token number k
 pub record BeginsAt (z : List ℕ) (ts : List Token) (b : Beginning) (x : List ℕ) (k : ℕ) : Type 0 where

@@ -2,14 +2,14 @@
 ghost use Rattle.std.specs.Prelude.{◌≡◌, ◌≤◌, ◌<◌, ℕ, length, MatchOption};
 ghost use Rattle.std.specs.Str.{bytes_eq};
 ghost use Rattle.sap_grammar.specs.Words.{words_of};
-ghost use Rattle.sap_grammar.specs.Reading.{names};
 ghost use Rattle.sap_where.specs.Where.{BeginsAt, HoldsOnce, IsFirst, IsSecond, begins};
 
-use sap_grammar::{beyond, name_at, starts};
+use sap_grammar::{beyond, starts};
+use sap_spot::{begins_definition, begins_statement};
 use sap_text::Token;
 
 /// What an item that is looked for begins with.
-#[derive(Clone, Copy, Debug, PartialEq, Eq)]
+#[derive(Clone, Copy)]
 pub enum Beginning {
     /// `process`.
     Process,
@@ -19,29 +19,14 @@ pub enum Beginning {
     Statement,
 }
 
-// Whether this name stands first.
-fn names(bytes: &[u8], tokens: &[Token], name: &[u8]) -> bool
-    ensures { result ≡ names name.now (words_of bytes.now tokens.now) }
-{
-    match name_at(bytes, tokens) {
-        Some(text) => text == name,
-        None => false,
-    }
-}
-
 // Whether such an item begins with the first of these tokens.
 fn begins(bytes: &[u8], tokens: &[Token], beginning: Beginning, name: &[u8]) -> bool
     ensures { result ≡ begins beginning name.now (words_of bytes.now tokens.now) }
 {
     match beginning {
         Beginning::Process => starts(bytes, tokens, "process"),
-        Beginning::Definition => {
-            starts(bytes, tokens, "let") && names(bytes, beyond(1, tokens), name)
-        }
-        Beginning::Statement => {
-            (starts(bytes, tokens, "restriction") || starts(bytes, tokens, "lemma"))
-                && names(bytes, beyond(1, tokens), name)
-        }
+        Beginning::Definition => begins_definition(bytes, tokens, name),
+        Beginning::Statement => begins_statement(bytes, tokens, name),
     }
 }
 

@@ -8,7 +8,7 @@ ghost use Rattle.sap_read.specs.Files.{AreTokens};
 ghost use Rattle.sap_read.specs.declared.fault.ReadFault.TheVariants.{Syntax};
 ghost use Rattle.sap_expect.specs.FileTable.{FollowsTable};
 ghost use Rattle.sap_expect.specs.FirstWrong.{IsFirstWrong};
-ghost use Rattle.sap_where.specs.Pieces.{BeginsPiece, CanBeOf, IsOnLine, IsPieceOf, starts_item};
+ghost use Rattle.sap_where.specs.Pieces.{BeginsPiece, CanBeOf, IsOnLine, IsPieceOf};
 ghost use Rattle.sap_where.specs.declared.place.Stretch.{Stretch};
 ghost use Rattle.sap_where.specs.Told.{IsTold};
 ghost use Rattle.sap_where.specs.Where.{IsWhere};
@@ -17,35 +17,17 @@ ghost use Rattle.sap_where.specs.code.Steps.{IsLastBefore};
 use crate::told::Told;
 use crate::walk::stretch_at;
 use sap_expect::{first_wrong, too_deep};
-use sap_grammar::{beyond, is_mark, last_line, line_of};
+use sap_grammar::{beyond, last_line, line_of};
+use sap_spot::begins_item;
 use sap_terms::Mem;
 use sap_text::Token;
 use std::alloc::Global;
-
-// Whether the first word begins items.
-fn starts_item(bytes: &[u8], tokens: &[Token]) -> bool
-    ensures { result ≡ starts_item (words_of bytes.now tokens.now) }
-{
-    match tokens.split_first() {
-        Some((token, _)) => {
-            is_mark(bytes, *token, "builtins")
-                || is_mark(bytes, *token, "functions")
-                || is_mark(bytes, *token, "let")
-                || is_mark(bytes, *token, "process")
-                || is_mark(bytes, *token, "restriction")
-                || is_mark(bytes, *token, "lemma")
-                || is_mark(bytes, *token, "rule")
-                || is_mark(bytes, *token, "end")
-        }
-        None => false,
-    }
-}
 
 // Whether a piece begins with token k.
 fn begins_piece(bytes: &[u8], tokens: &[Token], k: usize) -> bool
     ensures { IsTrue result ↔ BeginsPiece bytes.now tokens.now k }
 {
-    3 <= k && k < tokens.len() && (k == 3 || starts_item(bytes, beyond(k, tokens)))
+    3 <= k && k < tokens.len() && (k == 3 || begins_item(bytes, beyond(k, tokens)))
 }
 
 // The last token before number k with which a piece begins.

@@ -1,6 +1,8 @@
-//! Laws of places, as contracts of functions that do nothing.
-ghost use Rattle.std.specs.Prelude.{◌≡◌, ℕ, List, [], codes};
+//! Laws of places and of what is told of them, as contracts of functions that do nothing.
+ghost use Rattle.std.specs.Prelude.{◌≡◌, ℕ, List, [], Some, None, codes};
 ghost use Rattle.sap_read.specs.declared.fault.ReadFault.{ReadFault};
+ghost use Rattle.sap_read.specs.declared.fault.ReadFault.TheVariants.{Lex, NoProcess};
+ghost use Rattle.sap_text.specs.declared.fault.Lex.TheVariants.{BadByte};
 ghost use Rattle.sap_where.specs.Where.{IsTakenAt, IsWhere, StartsFile, one_byte, stretch_at};
 ghost use Rattle.sap_expect.specs.FirstWrong.{IsFirstWrong};
 ghost use Rattle.sap_where.specs.Positions.{IsPlaceText, IsPosition, carets, shown, shown_from, shown_to};
@@ -8,6 +10,8 @@ ghost use Rattle.sap_where.specs.PlaceExamples.{IsQ, at, ended_header, endless, 
 ghost use Rattle.sap_where.specs.declared.place.Position.{Position};
 ghost use Rattle.sap_where.specs.declared.place.Stretch.{Stretch};
 ghost use Rattle.sap_where.specs.Pieces.{CanBeOf, IsPieceOf};
+ghost use Rattle.sap_where.specs.Explained.{IsExplanation, IsSettled, IsUseText};
+ghost use Rattle.sap_where.specs.ExplainedExamples.{first_byte, one_mark, second_use, used_word, uses};
 
 use sap_text::one_answer;
 
@@ -58,4 +62,23 @@ pub fn places_by_hand()
         × (CanBeOf three_lines three_lines_tokens 3 5 → ⊥) }
     ensures uses { IsQ 6 × IsQ 10 × IsQ 28 × IsQ 31 }
     ensures no_uses { (IsQ 3 → ⊥) × (IsQ 14 → ⊥) × (IsQ 25 → ⊥) × (IsQ 35 → ⊥) }
+{}
+
+/// A law: of a cause whose place is defined by the words of the file one text is told.
+pub fn one_explanation()
+    ensures { (z : List ℕ) (e : ReadFault) (t u : List ℕ) → IsSettled z e → IsExplanation z e t
+        → IsExplanation z e u → t ≡ u }
+{
+    one_place();
+    one_place_text();
+}
+
+/// A law: what is told, tried by hand: of a file without a process, which has no place; of a byte that begins no token; of a name that
+/// is used on a second line; and that this isn't left out.
+pub fn explanations_by_hand()
+    ensures nowhere { IsExplanation [] NoProcess (codes "Add an item process: and the process.\n") }
+    ensures somewhere { IsExplanation one_mark (Lex (BadByte 0)) first_byte }
+    ensures used { IsUseText uses (Some used_word) second_use }
+    ensures unused { IsUseText uses None [] }
+    ensures not_untold { IsUseText uses (Some used_word) [] → ⊥ }
 {}

@@ -4,14 +4,14 @@ ghost use Rattle.sap_text.specs.Tokens.{line_feeds};
 ghost use Rattle.sap_where.specs.Positions.{IsPosition, LineBegins, LineEnds};
 
 /// A stretch of a file: the bytes from one offset up to the one before another, both counted from 0.
-#[derive(Clone, Copy, Debug, PartialEq, Eq)]
+#[derive(Clone, Copy)]
 pub struct Stretch {
     pub from: u64,
     pub to: u64,
 }
 
 /// A line and a column, in bytes, both counted from 1.
-#[derive(Clone, Copy, Debug, PartialEq, Eq)]
+#[derive(Clone, Copy)]
 pub struct Position {
     pub line: u64,
     pub column: u64,

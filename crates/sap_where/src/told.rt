@@ -21,7 +21,7 @@ use sap_text::{Lex, Token};
 use std::alloc::Global;
 
 /// Where a cause stands, and, where that is in the definition of a process, the name as which this is used.
-#[derive(Clone, Copy, Debug, PartialEq, Eq)]
+#[derive(Clone, Copy)]
 pub struct Told {
     pub word: Stretch,
     pub used: Option<Stretch>,

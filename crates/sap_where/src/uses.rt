@@ -13,8 +13,8 @@ ghost use Rattle.sap_where.specs.Uses.{IsUse, ends_heading, ends_lookup, in_head
 
 use crate::place::Stretch;
 use crate::walk::stretch_at;
-use sap_found::begins_item;
 use sap_grammar::{beyond, name_at, starts};
+use sap_spot::begins_item;
 use sap_terms::Name;
 use sap_text::Token;
 
