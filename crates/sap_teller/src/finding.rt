@@ -48,11 +48,7 @@ fn two_forms(alloc: Global, sig: &Signature, m: &Term, n: &Term) -> Result<(Term
 }
 
 // A name is made for the variable at the head.
-pub(crate) fn made<'a>(
-    alloc: Global,
-    n: u64,
-    form: Option<&'a Form>,
-) -> Result<Box<Doing<'a>>, Mem>
+pub(crate) fn made<'a>(alloc: Global, n: u64, form: Option<&'a Form>) -> Result<Box<Doing<'a>>, Mem>
     ensures { IfOk result (λ x. IsMade n (form_of form.entry) x.value) }
 {
     match form {
@@ -174,7 +170,12 @@ fn taken_alone<'a>(alloc: Global, n: &Term, x: &'a Term) -> Result<Box<Doing<'a>
 }
 
 // A pair is taken, whose second part fits the pattern.
-fn taken_second<'a>(alloc: Global, n: &Term, x: &'a Term, second: &Term) -> Result<Box<Doing<'a>>, Mem>
+fn taken_second<'a>(
+    alloc: Global,
+    n: &Term,
+    x: &'a Term,
+    second: &Term,
+) -> Result<Box<Doing<'a>>, Mem>
     ensures { IfOk result (λ r. IsFitted (tree n.now) (tree second.now) (does.Takes x.entry true) r.value) }
 {
     match bound_to(alloc, n, second)? {
@@ -199,7 +200,11 @@ fn second_of(x: &Term) -> Option<&Term>
 }
 
 // An entry is taken, and this is what it binds.
-pub(crate) fn taken<'a>(alloc: Global, form: Option<&Form>, x: &'a Term) -> Result<Box<Doing<'a>>, Mem>
+pub(crate) fn taken<'a>(
+    alloc: Global,
+    form: Option<&Form>,
+    x: &'a Term,
+) -> Result<Box<Doing<'a>>, Mem>
     ensures { IfOk result (λ r. IsTakenBy x.entry (form_of form.entry) r.value) }
 {
     match form {
