@@ -1,11 +1,10 @@
 //! The locks above a place.
-ghost use Rattle.std.specs.Prelude.{◌≡◌, ◌<◌, ◌+◌, ◌++◌, ◌∷◌, ◌-◌, [], Some, cond, length, take, OnOk, true, false};
+ghost use Rattle.std.specs.Prelude.{◌≡◌, ◌<◌, Some, cond, length};
 ghost use Rattle.sap_terms.specs.View.{tree};
 ghost use Rattle.sap_held.specs.Held.{with_open, label_at, opens, found, label_of, IsLastOpen};
 ghost use Rattle.sap_held.specs.code.Last.{last_open, is_open_of};
 
-use sap_terms::{Copied, Mem, Term};
-use std::alloc::Global;
+use sap_terms::Term;
 
 /// A lock above the place: its label, its term, and whether no unlock above the place has it as its lock.
 #[derive(Drop)]
