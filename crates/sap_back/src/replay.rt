@@ -89,13 +89,12 @@ fn bare_theory(alloc: Global, f: &File) -> Result<Theory, Mem>
     ensures sig { IfOk result (λ t. t.signature ≡ f.now.signature) }
     ensures rules { IfOk result (λ t. t.rules ≡ rules_of (proc f.now.process)) }
 {
-    let rules = generate(alloc, &f.signature, &f.process)?;
     let name = f.name.copy(alloc)?;
     let signature = f.signature.copy(alloc)?;
     Ok(Theory {
         name,
         signature,
-        rules,
+        rules: generate(alloc, &f.signature, &f.process)?,
         restrictions: RestrictionList::new(alloc),
         lemmas: LemmaList::new(alloc),
     })

@@ -9,7 +9,8 @@ use Rattle.sap_process.specs.Proc.{Proc, nil, parallel, replicated, act, test, l
 use Rattle.sap_locks.proofs.Members.{member-head, member-tail, member-none, member-cases}
 use Rattle.sap_locks.specs.Ways.{LockMark, locked, unlocked, LockSite, lock_count, way_behind, lock_sites, IsLockOf}
 use Rattle.sap_locks.specs.Annotation.{LockFlaw, without, over, HasLockFlaw, IsWithoutLock, IsFirstLockFlaw, IsLabelled, IsAnnotation, is_forking, unlock_at, action_lock, action_unlock, unlabelled, unlabelled_action}
-use Rattle.sap_locks.specs.code.Labels.{Open, found, opened, open_behind, label_of, labelled_action, labelled_from, labelled, first_flaw}
+use Rattle.sap_held.specs.Held.{Open, found, label_of}
+use Rattle.sap_locks.specs.code.Labels.{opened, open_behind, labelled_action, labelled_from, labelled, first_flaw}
 use Rattle.sap_locks.proofs.Opened.{Descends, lock_is}
 use Rattle.sap_locks.proofs.Places.{AllAt, all_in, in_all}
 use Rattle.sap_locks.proofs.Labelled.{IsMarked, plain, marked, descends_behind}

@@ -12,7 +12,8 @@ use Rattle.sap_process.specs.Heads.{locks_set}
 use Rattle.sap_process.specs.Proc.{Proc, nil, parallel, replicated, act, test, lookup}
 use Rattle.sap_locks.specs.Ways.{LockMark, locked, unlocked, IsOpen, IsLockOf, LockSite, lock_count, way_behind, lock_sites_from}
 use Rattle.sap_locks.specs.Annotation.{LockFlaw, without, over, HasLockFlaw, IsWithoutLock, is_forking, unlock_at, action_unlock}
-use Rattle.sap_locks.specs.code.Labels.{found, opened, label_of, unlocks, has_unlock, is_low, lesser, own_label, action_lowest, lowest, is_at_most, action_flaw, first_flaw_from, or_else}
+use Rattle.sap_held.specs.Held.{found, label_of}
+use Rattle.sap_locks.specs.code.Labels.{opened, unlocks, has_unlock, is_low, lesser, own_label, action_lowest, lowest, is_at_most, action_flaw, first_flaw_from, or_else}
 use Rattle.sap_locks.proofs.Opened.{Descends, lock_is}
 use Rattle.sap_locks.proofs.Places.{lock_site, AllAt, all_in}
 use Rattle.sap_locks.proofs.Labelled.{Counted, IsMarked}

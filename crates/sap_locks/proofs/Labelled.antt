@@ -6,7 +6,8 @@ use Rattle.sap_process.specs.Heads.{locks_set}
 use Rattle.sap_process.specs.Proc.{Proc, nil, parallel, replicated, act, test, lookup}
 use Rattle.sap_locks.specs.Ways.{LockMark, locked, unlocked, LockSite, lock_count, way_behind}
 use Rattle.sap_locks.specs.Annotation.{lock_at, unlock_at, action_lock, action_unlock, unlabelled, unlabelled_action}
-use Rattle.sap_locks.specs.code.Labels.{Open, found, opened, open_behind, label_of, labelled_action, labelled_from}
+use Rattle.sap_held.specs.Held.{Open, found, label_of}
+use Rattle.sap_locks.specs.code.Labels.{opened, open_behind, labelled_action, labelled_from}
 use Rattle.sap_locks.proofs.Opened.{Descends, descends_more}
 use Rattle.sap_locks.proofs.Places.{lock_site, AllAt}
 

@@ -6,7 +6,8 @@ use Rattle.sap_terms.specs.Tree.{Tree}
 use Rattle.sap_terms.proofs.PlainLaws.Tests.{same_tree-refl, same_tree-sound}
 use Rattle.sap_locks.proofs.Members.{member-head, member-tail, member-none, member-cases}
 use Rattle.sap_locks.specs.Ways.{LockMark, locked, unlocked, IsOpen, IsLockOf}
-use Rattle.sap_locks.specs.code.Labels.{Open, found, dropped, opened}
+use Rattle.sap_held.specs.Held.{Open, found, dropped}
+use Rattle.sap_locks.specs.code.Labels.{opened}
 
 -- the numbers on the way are below k, and each is below those nearer the end
 abbrev pub Descends : ℕ → List LockMark → Type 0

@@ -1,4 +1,3 @@
 -- How the code finds labels and flaws, with a list of open locks: no definition that a theorem speaks of.
 pub mod Labels
-pub mod Held
 pub mod Seen

@@ -2,11 +2,11 @@
 ghost use Rattle.std.specs.Prelude.{◌≡◌, ◌<◌, ◌+◌, ◌^◌, OnOk, ◌∷◌};
 ghost use Rattle.sap_terms.specs.View.{tree};
 ghost use Rattle.sap_process.specs.Proc.{proc};
-ghost use Rattle.sap_locks.specs.code.Held.{IsLastOpen, opens};
-ghost use Rattle.sap_locks.specs.code.Labels.{labelled_from, dropped};
+ghost use Rattle.sap_held.specs.Held.{IsLastOpen, dropped, opens};
+ghost use Rattle.sap_locks.specs.code.Labels.{labelled_from};
 ghost use Rattle.sap_locks.specs.Ways.{lock_count};
 
-use crate::held::{Held, last_of, set_open};
+use sap_held::{Held, last_of, set_open};
 use sap_process::Process;
 use sap_terms::{Copied, Mem, Term};
 use std::alloc::Global;

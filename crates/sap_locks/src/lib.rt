@@ -4,7 +4,6 @@
 mod annotating;
 mod descents;
 mod fault;
-mod held;
 mod labelling;
 mod laws;
 mod searching;

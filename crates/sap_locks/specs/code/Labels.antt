@@ -1,25 +1,12 @@
 -- Labels and flaws.
 use Rattle.std.specs.Prelude.{ℕ, zero, suc, min, ◌+◌, Bool, false, ◌||◌, ◌&&◌, nat_lt, nat_eq, List, [], ◌∷◌, ◌++◌, Option, Some, None, cond}
-use Rattle.sap_terms.specs.Same.{same_tree}
 use Rattle.sap_terms.specs.Tree.{Tree}
 use Rattle.sap_process.specs.Action.{Action, lock, unlock}
 use Rattle.sap_process.specs.Heads.{locks_set}
 use Rattle.sap_process.specs.Proc.{Proc, nil, parallel, replicated, act, test, lookup}
+use Rattle.sap_held.specs.Held.{Open, dropped, found, label_of}
 use Rattle.sap_locks.specs.Ways.{LockMark, locked, unlocked, lock_count}
 use Rattle.sap_locks.specs.Annotation.{LockFlaw, without, over}
-
--- open locks with their labels and terms, the lowest first
-abbrev pub Open : Type 0
-Open = List (ℕ × Tree)
-
--- the first of the term, and the others without it
-abbrev pub found : Tree → Open → Option ℕ
-found t [] = None
-found t (b ∷ o) = cond (same_tree b.1 t) (Some b.0) (found t o)
-
-abbrev pub dropped : Tree → Open → Open
-dropped t [] = []
-dropped t (b ∷ o) = cond (same_tree b.1 t) o (b ∷ dropped t o)
 
 -- those at the end of a way
 abbrev pub opened : List LockMark → Open
@@ -32,11 +19,6 @@ abbrev pub open_behind : Open → ℕ → Action → Open
 open_behind o k (lock t l) = (k + 1, t) ∷ o
 open_behind o k (unlock t l) = dropped t o
 open_behind o k _ = o
-
--- a label, or 0 where there is none
-abbrev pub label_of : Option ℕ → ℕ
-label_of None = 0
-label_of (Some n) = n
 
 -- the action with its label
 abbrev pub labelled_action : Open → ℕ → Action → Action

@@ -1,8 +1,8 @@
 use Rattle.std.proofs.Common.{sym, ◌∙◌, ap, cond, Some, take}
 use Rattle.sap_terms.specs.View.{tree}
-use Rattle.sap_locks.specs.code.Held.{last_open, is_open_of}
-use Rattle.sap_locks.proofs.Flags.{last_step}
-use Rattle.sap_locks.proofs.held.last_open.Goals as goal
+use Rattle.sap_held.specs.code.Last.{last_open, is_open_of}
+use Rattle.sap_held.proofs.Flags.{last_step}
+use Rattle.sap_held.proofs.held.last_open.Goals as goal
 
 pub loop-k-preserved : goal.loop-k-preserved
 loop-k-preserved c =

@@ -1,29 +1,28 @@
 //! The locks above a place.
-ghost use Rattle.std.specs.Prelude.{◌≡◌, ◌<◌, ◌+◌, ◌++◌, ◌∷◌, ◌-◌, [], Some, cond, length, take, OnOk, true, false};
+ghost use Rattle.std.specs.Prelude.{◌≡◌, ◌<◌, Some, cond, length};
 ghost use Rattle.sap_terms.specs.View.{tree};
-ghost use Rattle.sap_locks.specs.code.Held.{last_open, with_open, label_at, is_open_of, opens, IsLastOpen};
-ghost use Rattle.sap_locks.specs.code.Labels.{found, label_of};
+ghost use Rattle.sap_held.specs.Held.{with_open, label_at, opens, found, label_of, IsLastOpen};
+ghost use Rattle.sap_held.specs.code.Last.{last_open, is_open_of};
 
-use sap_terms::{Copied, Mem, Term};
-use std::alloc::Global;
+use sap_terms::Term;
 
-// A lock above the place: its label, its term, and whether no unlock above the place has it as its lock.
+/// A lock above the place: its label, its term, and whether no unlock above the place has it as its lock.
 #[derive(Drop)]
-pub(crate) struct Held {
-    pub(crate) label: u32,
-    pub(crate) term: Term,
-    pub(crate) is_open: bool,
+pub struct Held {
+    pub label: u32,
+    pub term: Term,
+    pub is_open: bool,
 }
 
-// The lock that an unlock ends: its index, if there is one, and its label, or 0.
+/// The lock that an unlock ends: its index, if there is one, and its label, or 0.
 #[derive(Drop)]
-pub(crate) struct Ended {
-    pub(crate) index: Option<u64>,
-    pub(crate) label: u32,
+pub struct Ended {
+    pub index: Option<u64>,
+    pub label: u32,
 }
 
-// The last of these that is open and has the term.
-pub(crate) fn last_of(held: &[Held], t: &Term) -> Ended
+/// The last of these that is open and has the term.
+pub fn last_of(held: &[Held], t: &Term) -> Ended
     ensures index { IsLastOpen (tree t.now) held.now result.index }
     ensures label { result.label ≡ label_of (found (tree t.now) (opens held.now)) }
 {
@@ -73,8 +72,8 @@ fn is_open_of(h: &Held, t: &Term) -> bool
     h.is_open && h.term.same(t)
 }
 
-// The lock at the index is open from now on, or isn't.
-pub(crate) fn set_open(held: &mut Vec<Held>, k: u64, is_open: bool)
+/// The lock at the index is open from now on, or isn't.
+pub fn set_open(held: &mut Vec<Held>, k: u64, is_open: bool)
     requires { k < length held.now.items }
     ensures list { held.new.items ≡ with_open held.old.items k is_open }
     ensures len { length held.new.items ≡ length held.old.items }

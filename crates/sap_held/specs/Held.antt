@@ -1,23 +1,28 @@
--- The locks above a place.
-use Rattle.std.specs.Prelude.{◌≡◌, ◌<◌, length, ℕ, zero, suc, Bool, true, false, ◌&&◌, List, [], ◌∷◌, Option, Some, None, cond}
+-- The locks above a place: which are open, and which of them an unlock ends.
+use Rattle.std.specs.Prelude.{◌≡◌, ◌<◌, length, ℕ, zero, suc, Bool, true, false, List, [], ◌∷◌, Option, Some, None, cond}
 use Rattle.sap_terms.specs.Same.{same_tree}
 use Rattle.sap_terms.specs.Tree.{Tree}
 use Rattle.sap_terms.specs.View.{tree}
-use Rattle.sap_locks.specs.code.Labels.{Open, found, dropped}
-use Rattle.sap_locks.specs.declared.held.Held.{Held}
+use Rattle.sap_held.specs.declared.held.Held.{Held}
 
-abbrev pub is_open_of : Tree → Held → Bool
-is_open_of t h = h.is_open && same_tree (tree h.term) t
+-- open locks with their labels and terms, the lowest first
+abbrev pub Open : Type 0
+Open = List (ℕ × Tree)
 
--- the index of the last one that is open and has the term, where later ones say this
-abbrev pub later_or : Option ℕ → Bool → Option ℕ
-later_or (Some k) b = Some (suc k)
-later_or None true = Some 0
-later_or None false = None
+-- the label of the first of the term
+abbrev pub found : Tree → Open → Option ℕ
+found t [] = None
+found t (b ∷ o) = cond (same_tree b.1 t) (Some b.0) (found t o)
 
-abbrev pub last_open : Tree → List Held → Option ℕ
-last_open t [] = None
-last_open t (h ∷ hs) = later_or (last_open t hs) (is_open_of t h)
+-- the others without the first of the term
+abbrev pub dropped : Tree → Open → Open
+dropped t [] = []
+dropped t (b ∷ o) = cond (same_tree b.1 t) o (b ∷ dropped t o)
+
+-- a label, or 0 where there is none
+abbrev pub label_of : Option ℕ → ℕ
+label_of None = 0
+label_of (Some n) = n
 
 -- with another flag at an index
 abbrev pub with_open : List Held → ℕ → Bool → List Held
@@ -25,6 +30,7 @@ with_open [] k b = []
 with_open (h ∷ hs) zero b = record h { is_open = b } ∷ hs
 with_open (h ∷ hs) (suc k) b = h ∷ with_open hs k b
 
+-- the label of the one at an index
 abbrev pub label_at : List Held → ℕ → ℕ
 label_at [] k = 0
 label_at (h ∷ hs) zero = h.label
@@ -35,6 +41,7 @@ abbrev pub opens_on : List Held → Open → Open
 opens_on [] o = o
 opens_on (h ∷ hs) o = opens_on hs (cond h.is_open ((h.label, tree h.term) ∷ o) o)
 
+-- those that are open, the lowest first
 abbrev pub opens : List Held → Open
 opens hs = opens_on hs []
 

@@ -1,5 +1,5 @@
-use Rattle.sap_locks.proofs.Flags.{label_is}
-use Rattle.sap_locks.proofs.held.label_at.Goals as goal
+use Rattle.sap_held.proofs.Flags.{label_is}
+use Rattle.sap_held.proofs.held.label_at.Goals as goal
 
 pub returns : goal.returns
 returns c = label_is c.args.held.now c.args.k c.index-held-k.result c.requires
