@@ -22,7 +22,7 @@ use Rattle.sap_replay.specs.AcceptedTheory.{most_theory_bytes, IsAcceptedTheory,
 use Rattle.sap_replay.specs.JsonRuns.{IsJsonRefusedWith}
 use Rattle.sap_tool.specs.Call.{Holds}
 use Rattle.sap_replay.specs.declared.way.Way.{Way}
-use Rattle.sap_tool.specs.Commands.{Command, compile, replay, fill, check, to_json, from_json, explain, Input, alone, deed_of, compiling, replaying, filling, checking, writing_json, reading_json, explaining, AcceptsFile, AcceptsTheory, no_cause, each, limit_of, RefusesRun, Allows}
+use Rattle.sap_tool.specs.Commands.{Command, compile, replay, fill, check, to_json, from_json, explain, Input, alone, behaviour_of, compiling, replaying, filling, checking, writing_json, reading_json, explaining, AcceptsFile, AcceptsTheory, no_cause, each, limit_of, RefusesRun, Allows}
 use Rattle.sap_replay.specs.Tasks.{kinds_of}
 use Rattle.sap_replay.specs.declared.task.Task.{Task}
 use Rattle.sap_replay.specs.ShortRuns.{IsShortRefusedWith}
@@ -245,7 +245,7 @@ explaining_is laws file = record {
   refused_as_held = λ held read why p r. absurd r;
 }
 
-pub is_sound : Laws → (k : Command) → IsSound (deed_of k)
+pub is_sound : Laws → (k : Command) → IsSound (behaviour_of k)
 is_sound laws (compile way file) = compiling_is laws way file
 is_sound laws (replay task file run) = replaying_is laws task file run
 is_sound laws (fill file run) = filling_is laws file run

@@ -10,7 +10,7 @@ use Rattle.sap_refusals.specs.RunFaultTexts.{run_refused_line}
 use Rattle.sap_replay.specs.Sample.{IsSample, sample_text}
 use Rattle.sap_tool.specs.Call.{Call, FailedOn, Holds}
 use Rattle.sap_replay.specs.declared.way.Way.{Way}
-use Rattle.sap_tool.specs.Commands.{Command, compile, Input, alone, and_run, run_alone, file_of, run_of, HowRead, in_pieces, at_once, how_read, limit_of, IsUnknown, deed_of, Accepts, Refuses, RefusesRun, TakesRun, Allows}
+use Rattle.sap_tool.specs.Commands.{Command, compile, Input, alone, and_run, run_alone, file_of, run_of, HowRead, in_pieces, at_once, how_read, limit_of, IsUnknown, behaviour_of, Accepts, Refuses, RefusesRun, TakesRun, Allows}
 use Rattle.sap_tool.specs.Answers.{Answer, gives, tells, status_of, IsAnswerTo, allowed, refused, run_refused, Asks, for_file, IsFileFetched, WasReadSo, WasRunRead, Fetched, IsRunNext, FailedOnFile, FailedOnRun, IsAnswer, IsBegun, to_input, sampled, usage, unread, unread_run, read_fault_text, IsPut, whole, broken, wanting, IsLast, complete, cut, write_fault_text, memory_text, Ended, answered, unanswered}
 use Rattle.sap_tool.specs.Promises as promised
 use Rattle.sap_tool.proofs.Asked.{one_command, no_command_is_sample}
@@ -174,7 +174,7 @@ module _ (laws : Laws) (c : Call) where
         held was
 
     -- so what was read, where it is whole, is a part of what is held
-    part_of : (held read : Input) → promised.HoldsInput c k held → Fetched c k read → IsWhole (deed_of k) read → IsPartOf (limit_of k) held read
+    part_of : (held read : Input) → promised.HoldsInput c k held → Fetched c k read → IsWhole (behaviour_of k) read → IsPartOf (limit_of k) held read
     part_of (alone bytes) (alone x) h f w = fetched_is bytes x h.0 f.0
     part_of (alone bytes) (and_run x y) h f w = absurd (none_has (run_of k) _ h.1 f.1)
     part_of (alone bytes) (run_alone y) h f w = absurd (none_has (file_of k) _ w h.0)
@@ -202,14 +202,14 @@ module _ (laws : Laws) (c : Call) where
     file_is_refused (run_alone z) x why h f r = absurd (none_has (file_of k) _ h.0 f)
 
     -- what is whole has no such file
-    whole_never : (input : Input) (why : List ℕ) → IsWhole (deed_of k) input → promised.RefusesFile k input why → ⊥
+    whole_never : (input : Input) (why : List ℕ) → IsWhole (behaviour_of k) input → promised.RefusesFile k input why → ⊥
     whole_never (alone bytes) why w r = (is_sound laws k).fetched.never bytes why w.0 r
     whole_never (and_run bytes z) why w r = (is_sound laws k).fetched.never bytes why w r
     whole_never (run_alone z) why w r = r
 
     -- where a file is held that a cause refuses, what was read isn't whole, and it isn't the run's turn
     module _ (bytes why : List ℕ) (held : promised.HoldsFile c k bytes) (r : Refuses k bytes why) where
-      not_whole : (read : Input) → Fetched c k read → IsWhole (deed_of k) read → ⊥
+      not_whole : (read : Input) → Fetched c k read → IsWhole (behaviour_of k) read → ⊥
       not_whole (alone x) f w = (is_sound laws k).fetched.never x why w.0 (fetched_is_refused bytes x why held f.0 r)
       not_whole (and_run x y) f w = (is_sound laws k).fetched.never x why w (fetched_is_refused bytes x why held f.0 r)
       not_whole (run_alone y) f w = none_has (file_of k) _ w held
@@ -253,11 +253,11 @@ module _ (laws : Laws) (c : Call) where
     -- where the shelf holds what the command reads
     module _ (held : Input) (holds : promised.HoldsInput c k held) where
       -- what was read of it
-      read_part : (read : Input) → Fetched c k read → IsWhole (deed_of k) read → IsPartOf (limit_of k) held read
+      read_part : (read : Input) → Fetched c k read → IsWhole (behaviour_of k) read → IsPartOf (limit_of k) held read
       read_part read f w = part_of held read holds f w
 
       module _ (why : List ℕ) (r : RefusesRun k held why) where
-        refused_run : (read : Input) → Fetched c k read → IsWhole (deed_of k) read → RefusesRun k read why
+        refused_run : (read : Input) → Fetched c k read → IsWhole (behaviour_of k) read → RefusesRun k read why
         refused_run read f w = (is_sound laws k).refused_as_read held read why (read_part read f w) r
 
         not_allowed : (read : Input) (text : List ℕ) → Fetched c k read → Allows k read text → ⊥

@@ -1,7 +1,7 @@
 -- What is so of every command, as one record of each: what the promises rest on.
 use Rattle.std.proofs.Common.{◌≡◌, ◌+◌, ℕ, List, take, None, refl, sym, subst}
 use Rattle.sap_outside.specs.RunPieces.{IsReadUp}
-use Rattle.sap_tool.specs.Commands.{Deed, Input, alone, and_run, run_alone, IsAlone, IsWithRun, IsRunAlone}
+use Rattle.sap_tool.specs.Commands.{Behaviour, Input, alone, and_run, run_alone, IsAlone, IsWithRun, IsRunAlone}
 
 -- Of what a command fetches first, by how many bytes this may have, what refuses it and what accepts it: what is accepted isn't refused, one
 -- cause refuses it, and its first bytes show it.
@@ -13,7 +13,7 @@ pub record IsShown (most : ℕ) (Refused : List ℕ → List ℕ → Type 0) (Ac
   pub part_accepted : (bytes : List ℕ) → Accepted bytes → Accepted (take (most + 1) bytes)
 
 -- what was read is what the command reads, and the file or theory in it is accepted
-abbrev pub IsWhole : Deed → Input → Type 0
+abbrev pub IsWhole : Behaviour → Input → Type 0
 IsWhole d (alone bytes) = d.Accepts bytes × (d.run ≡ None)
 IsWhole d (and_run bytes z) = d.Accepts bytes
 IsWhole d (run_alone z) = d.file ≡ None
@@ -28,7 +28,7 @@ IsPartOf most held read = ⊥
 -- Of a command: what it allows means what it should; no run is both taken and refused, and it is refused for one cause; one that is refused
 -- though a text is allowed would be taken; who allows, refuses or takes has read the whole; and what is held is refused where what was read of
 -- it is, and the other way about.
-pub record IsSound (d : Deed) : Type 0 where
+pub record IsSound (d : Behaviour) : Type 0 where
   pub fetched : IsShown d.limit d.Refuses d.Accepts
   pub means : (input : Input) (text : List ℕ) → d.Allows input text → d.Means input text
   pub never_taken : (input : Input) (why : List ℕ) → d.TakesRun input → d.RefusesRun input why → ⊥
@@ -73,17 +73,17 @@ run_two P Q R f (and_run bytes z) p q = absurd p
 run_two P Q R f (run_alone z) p q = f z p q
 
 -- whoever reads it has read the whole
-pub alone_whole : (d : Deed) (P : List ℕ → Type 0) → ((bytes : List ℕ) → P bytes → d.Accepts bytes) → d.run ≡ None → (input : Input) → IsAlone P input → IsWhole d input
+pub alone_whole : (d : Behaviour) (P : List ℕ → Type 0) → ((bytes : List ℕ) → P bytes → d.Accepts bytes) → d.run ≡ None → (input : Input) → IsAlone P input → IsWhole d input
 alone_whole d P f none (alone bytes) p = (f bytes p, none)
 alone_whole d P f none (and_run bytes z) p = absurd p
 alone_whole d P f none (run_alone z) p = absurd p
 
-pub both_whole : (d : Deed) (P : List ℕ → List ℕ → Type 0) → ((bytes z : List ℕ) → P bytes z → d.Accepts bytes) → (input : Input) → IsWithRun P input → IsWhole d input
+pub both_whole : (d : Behaviour) (P : List ℕ → List ℕ → Type 0) → ((bytes z : List ℕ) → P bytes z → d.Accepts bytes) → (input : Input) → IsWithRun P input → IsWhole d input
 both_whole d P f (alone bytes) p = absurd p
 both_whole d P f (and_run bytes z) p = f bytes z p
 both_whole d P f (run_alone z) p = absurd p
 
-pub run_whole : (d : Deed) (P : List ℕ → Type 0) → d.file ≡ None → (input : Input) → IsRunAlone P input → IsWhole d input
+pub run_whole : (d : Behaviour) (P : List ℕ → Type 0) → d.file ≡ None → (input : Input) → IsRunAlone P input → IsWhole d input
 run_whole d P none (alone bytes) p = absurd p
 run_whole d P none (and_run bytes z) p = absurd p
 run_whole d P none (run_alone z) p = none

@@ -81,7 +81,7 @@ IsRunAlone P (and_run bytes z) = ⊥
 IsRunAlone P (run_alone z) = P z
 
 -- what a command does
-pub record Deed : Type 1 where
+pub record Behaviour : Type 1 where
   -- the words that ask for it
   pub words : List (List ℕ)
   -- what it fetches first, where it does so: a file, a theory, or JSON
@@ -126,7 +126,7 @@ abbrev pub AcceptsTheory : List ℕ → Type 0
 AcceptsTheory bytes = (t : Theory) × IsAcceptedTheory bytes t
 
 -- the theory of a file
-abbrev pub compiling : Way → List ℕ → Deed
+abbrev pub compiling : Way → List ℕ → Behaviour
 compiling way file = record {
   words = word_of_way way ∷ file ∷ [];
   file = Some file;
@@ -142,7 +142,7 @@ compiling way file = record {
 }
 
 -- a task on a run of a file
-abbrev pub replaying : Task → List ℕ → List ℕ → Deed
+abbrev pub replaying : Task → List ℕ → List ℕ → Behaviour
 replaying task file run = record {
   words = word_of_task task ∷ file ∷ run ∷ [];
   file = Some file;
@@ -159,7 +159,7 @@ replaying task file run = record {
 }
 
 -- the run of a file that a short run stands for
-abbrev pub filling : List ℕ → List ℕ → Deed
+abbrev pub filling : List ℕ → List ℕ → Behaviour
 filling file run = record {
   words = codes "fill" ∷ file ∷ run ∷ [];
   file = Some file;
@@ -176,7 +176,7 @@ filling file run = record {
 }
 
 -- what a theory says of a run of its rules
-abbrev pub checking : List ℕ → List ℕ → Deed
+abbrev pub checking : List ℕ → List ℕ → Behaviour
 checking theory run = record {
   words = codes "check-rules" ∷ theory ∷ run ∷ [];
   file = Some theory;
@@ -193,7 +193,7 @@ checking theory run = record {
 }
 
 -- a run as JSON
-abbrev pub writing_json : List ℕ → Deed
+abbrev pub writing_json : List ℕ → Behaviour
 writing_json run = record {
   words = codes "to-json" ∷ run ∷ [];
   file = None;
@@ -209,7 +209,7 @@ writing_json run = record {
 }
 
 -- the run that JSON is
-abbrev pub reading_json : List ℕ → Deed
+abbrev pub reading_json : List ℕ → Behaviour
 reading_json json = record {
   words = codes "from-json" ∷ json ∷ [];
   file = Some json;
@@ -225,7 +225,7 @@ reading_json json = record {
 }
 
 -- whether a file is accepted, or why not
-abbrev pub explaining : List ℕ → Deed
+abbrev pub explaining : List ℕ → Behaviour
 explaining file = record {
   words = codes "why" ∷ file ∷ [];
   file = Some file;
@@ -241,48 +241,48 @@ explaining file = record {
 }
 
 -- what each does
-abbrev pub deed_of : Command → Deed
-deed_of (compile way file) = compiling way file
-deed_of (replay task file run) = replaying task file run
-deed_of (fill file run) = filling file run
-deed_of (check theory run) = checking theory run
-deed_of (to_json run) = writing_json run
-deed_of (from_json json) = reading_json json
-deed_of (explain file) = explaining file
+abbrev pub behaviour_of : Command → Behaviour
+behaviour_of (compile way file) = compiling way file
+behaviour_of (replay task file run) = replaying task file run
+behaviour_of (fill file run) = filling file run
+behaviour_of (check theory run) = checking theory run
+behaviour_of (to_json run) = writing_json run
+behaviour_of (from_json json) = reading_json json
+behaviour_of (explain file) = explaining file
 
 -- in a word each
 abbrev pub spelled : Command → List (List ℕ)
-spelled k = (deed_of k).words
+spelled k = (behaviour_of k).words
 
 abbrev pub file_of : Command → Option (List ℕ)
-file_of k = (deed_of k).file
+file_of k = (behaviour_of k).file
 
 abbrev pub limit_of : Command → ℕ
-limit_of k = (deed_of k).limit
+limit_of k = (behaviour_of k).limit
 
 abbrev pub run_of : Command → Option (List ℕ)
-run_of k = (deed_of k).run
+run_of k = (behaviour_of k).run
 
 abbrev pub how_read : Command → HowRead
-how_read k = (deed_of k).how
+how_read k = (behaviour_of k).how
 
 abbrev pub Refuses : Command → List ℕ → List ℕ → Type 0
-Refuses k = (deed_of k).Refuses
+Refuses k = (behaviour_of k).Refuses
 
 abbrev pub Accepts : Command → List ℕ → Type 0
-Accepts k = (deed_of k).Accepts
+Accepts k = (behaviour_of k).Accepts
 
 abbrev pub RefusesRun : Command → Input → List ℕ → Type 0
-RefusesRun k = (deed_of k).RefusesRun
+RefusesRun k = (behaviour_of k).RefusesRun
 
 abbrev pub TakesRun : Command → Input → Type 0
-TakesRun k = (deed_of k).TakesRun
+TakesRun k = (behaviour_of k).TakesRun
 
 abbrev pub Allows : Command → Input → List ℕ → Type 0
-Allows k = (deed_of k).Allows
+Allows k = (behaviour_of k).Allows
 
 abbrev pub Means : Command → Input → List ℕ → Type 0
-Means k = (deed_of k).Means
+Means k = (behaviour_of k).Means
 
 -- the words ask for nothing that the program does
 pub record IsUnknown (words : List (List ℕ)) : Type 0 where
