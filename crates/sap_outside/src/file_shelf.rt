@@ -52,8 +52,8 @@ impl<'a, R: Files> FileShelf<'a, R> {
 /// How many bytes there is room for before any is read.
 const FIRST_ROOM: usize = 65_536;
 
-/// How often in a row a signal may interrupt a read.
-const MOST_TRIES: u64 = 1_000_000;
+/// How often in a row a signal may interrupt a read, or a write.
+pub const MOST_TRIES: u64 = 1_000_000;
 
 // Opens the file of this name.
 fn open<R: Files>(rt: &R, name: &str) -> Result<R::File, ShelfFault> {

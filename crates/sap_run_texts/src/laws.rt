@@ -1,5 +1,6 @@
 //! What is so of the texts of runs.
-ghost use Rattle.std.specs.Prelude.{◌≡◌, ◌≤◌, ◌^◌, ℕ, codes, List, [], Result, Ok, length};
+ghost use Rattle.std.specs.Prelude.{◌≡◌, ◌≤◌, ◌+◌, ◌*◌, ◌^◌, ℕ, codes, List, [], Result, Ok, length};
+ghost use Rattle.sap_runs.specs.declared.limits.TheConstants.{MOST_SHORT_STEPS};
 ghost use Rattle.sap_runs.specs.declared.process_step.PStep.{PStep};
 ghost use Rattle.sap_runs.specs.declared.process_step.PStep.TheVariants as step;
 ghost use Rattle.sap_runs.specs.declared.rule_step.RStep.{RStep};
@@ -83,3 +84,12 @@ pub fn read_runs_are_read_again()
     read_runs_can_be_written();
     printed_runs_are_read();
 }
+
+/// A law: the most steps of a short run, of a run of a process, and of one of rules, and that the last are four for each of a run of a
+/// process, and one for the beginning.
+pub fn limits_by_hand()
+    ensures short_steps { MOST_SHORT_STEPS ≡ 500 }
+    ensures process_steps { MOST_PROCESS_STEPS ≡ 5000 }
+    ensures rule_steps { MOST_RULE_STEPS ≡ 20001 }
+    ensures opposite { MOST_RULE_STEPS ≡ 4 * MOST_PROCESS_STEPS + 1 }
+{}
