@@ -99,7 +99,7 @@ fn label_locked(q: &mut Box<Process>, alloc: Global, locks: &mut Locks, t: &Term
     })?;
     locks.count += 1;
     label(q, alloc, locks)?;
-    locks.held.pop();
+    drop(locks.held.pop());
     Ok(())
 }
 

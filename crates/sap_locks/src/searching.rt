@@ -87,8 +87,13 @@ fn search_both(
     ensures same { OnOk result (trail.new ≡ trail.old) }
 {
     let a = search_child(q, alloc, trail, 1, before)?;
-    let b = search_child(r, alloc, trail, 2, a.after)?;
-    Ok(joined(a, b))
+    match search_child(r, alloc, trail, 2, a.after) {
+        Err(mem) => {
+            drop(a);
+            Err(mem)
+        }
+        Ok(b) => Ok(joined(a, b)),
+    }
 }
 
 #[cycle(search)]
@@ -142,18 +147,24 @@ fn forked(alloc: Global, trail: &Path, before: u32, seen: Seen) -> Result<Seen, 
     ensures found { IfOk result (λ s. flaw_seen s.found
         ≡ or_else (cond (is_at_most seen.lowest before) (Some (over, trail.now)) None) (flaw_seen seen.found)) }
 {
-    if is_at_most(seen.lowest, before) {
-        let path = trail.copy(alloc)?;
-        return Ok(Seen {
-            lowest: seen.lowest,
-            after: seen.after,
-            found: Some(Found {
-                is_over: true,
-                path,
-            }),
-        });
+    if !is_at_most(seen.lowest, before) {
+        return Ok(seen);
     }
-    Ok(seen)
+    let Seen {
+        lowest,
+        after,
+        found,
+    } = seen;
+    drop(found);
+    let path = trail.copy(alloc)?;
+    Ok(Seen {
+        lowest,
+        after,
+        found: Some(Found {
+            is_over: true,
+            path,
+        }),
+    })
 }
 
 fn is_at_most(lowest: Option<u32>, k: u32) -> bool
@@ -172,11 +183,17 @@ fn unlocked(alloc: Global, trail: &Path, label: u32, seen: Seen) -> Result<Seen,
     ensures found { IfOk result (λ s. flaw_seen s.found
         ≡ or_else (cond (nat_eq label 0) (Some (without, trail.now)) None) (flaw_seen seen.found)) }
 {
+    let Seen {
+        lowest,
+        after,
+        found,
+    } = seen;
     if label == 0 {
+        drop(found);
         let path = trail.copy(alloc)?;
         return Ok(Seen {
-            lowest: seen.lowest,
-            after: seen.after,
+            lowest,
+            after,
             found: Some(Found {
                 is_over: false,
                 path,
@@ -184,8 +201,8 @@ fn unlocked(alloc: Global, trail: &Path, label: u32, seen: Seen) -> Result<Seen,
         });
     }
     Ok(Seen {
-        lowest: lesser(Some(label), seen.lowest),
-        after: seen.after,
-        found: seen.found,
+        lowest: lesser(Some(label), lowest),
+        after,
+        found,
     })
 }

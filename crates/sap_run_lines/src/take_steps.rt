@@ -21,7 +21,10 @@ fn into_number(word: WrittenWord) -> Option<u64>
 {
     match word {
         WrittenWord::Number(n) => Some(n),
-        _ => None,
+        other => {
+            drop(other);
+            None
+        }
     }
 }
 
@@ -30,7 +33,10 @@ fn into_fresh(word: WrittenWord) -> Option<u64>
 {
     match word {
         WrittenWord::Fresh(n) => Some(n),
-        _ => None,
+        other => {
+            drop(other);
+            None
+        }
     }
 }
 
@@ -39,7 +45,10 @@ fn into_public(word: WrittenWord) -> Option<Name>
 {
     match word {
         WrittenWord::Public(name) => Some(name),
-        _ => None,
+        other => {
+            drop(other);
+            None
+        }
     }
 }
 
@@ -49,7 +58,10 @@ fn into_bound(word: WrittenWord) -> Option<Binding>
 {
     match word {
         WrittenWord::Bound(binding) => Some(binding),
-        _ => None,
+        other => {
+            drop(other);
+            None
+        }
     }
 }
 
@@ -106,6 +118,7 @@ fn only_word(alloc: Global, bytes: &[u8]) -> Result<Option<WrittenWord>, Mem>
         Some((word, rest)) => if rest.is_empty() {
             Ok(Some(word))
         } else {
+            drop(word);
             Ok(None)
         },
     }

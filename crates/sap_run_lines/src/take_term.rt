@@ -61,11 +61,19 @@ fn take_paired<'a>(
     ensures { Takes tree result (paired (rest calls) (tree left) bytes.now) }
 {
     if !starts(b',', bytes) {
+        drop(left);
         return Ok(None);
     }
-    match take_rest(alloc, calls, behind(1, bytes))? {
-        None => Ok(None),
-        Some((right, end)) => {
+    match take_rest(alloc, calls, behind(1, bytes)) {
+        Err(mem) => {
+            drop(left);
+            Err(mem)
+        }
+        Ok(None) => {
+            drop(left);
+            Ok(None)
+        }
+        Ok(Some((right, end))) => {
             let both = pair(alloc, left, right)?;
             Ok(Some((both, end)))
         }
@@ -227,6 +235,7 @@ pub(crate) fn small_term<'a>(
         Some((term, rest)) => if term.nodes() <= MOST_TERM_NODES {
             Ok(Some((term, rest)))
         } else {
+            drop(term);
             Ok(None)
         },
     }

@@ -24,9 +24,16 @@ fn take_value<'a>(
     match small_term(alloc, behind(1, bytes))? {
         None => Ok(None),
         Some((term, rest)) => {
-            let name = Name::from_bytes(alloc, name)?;
-            let var = Var { name, sort };
-            Ok(Some((WrittenWord::Bound(Binding { var, term }), rest)))
+            match Name::from_bytes(alloc, name) {
+                Err(mem) => {
+                    drop(term);
+                    Err(mem)
+                }
+                Ok(name) => {
+                    let var = Var { name, sort };
+                    Ok(Some((WrittenWord::Bound(Binding { var, term }), rest)))
+                }
+            }
         }
     }
 }

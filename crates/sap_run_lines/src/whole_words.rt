@@ -111,6 +111,7 @@ pub(crate) fn term_alone(alloc: Global, bytes: &[u8]) -> Result<Option<Term>, Me
         Some((term, rest)) => if is_end(rest) {
             Ok(Some(term))
         } else {
+            drop(term);
             Ok(None)
         },
     }

@@ -71,12 +71,22 @@ fn read_message<'a>(
         (tree channel) (words_of bytes.now tokens.now)) }
 {
     if !starts(bytes, tokens, ",") {
+        drop(channel);
         return Ok(None);
     }
-    match read_short_term(alloc, sig, FILE_LIMITS, bytes, beyond(1, tokens))? {
-        None => Ok(None),
-        Some((message, rest)) => {
+    match read_short_term(alloc, sig, FILE_LIMITS, bytes, beyond(1, tokens)) {
+        Err(mem) => {
+            drop(channel);
+            Err(mem)
+        }
+        Ok(None) => {
+            drop(channel);
+            Ok(None)
+        }
+        Ok(Some((message, rest))) => {
             if !starts(bytes, rest, ")") {
+                drop(channel);
+                drop(message);
                 return Ok(None);
             }
             let doing = on_channel(alloc, way, channel, message)?;
@@ -159,11 +169,22 @@ fn read_right_side<'a>(
         (words_of bytes.now tokens.now)) }
 {
     if !starts(bytes, tokens, "[") {
+        drop(taken);
+        drop(shown);
         return Ok(None);
     }
-    match read_facts(alloc, sig, FILE_LIMITS, bytes, true, "]", beyond(1, tokens))? {
-        None => Ok(None),
-        Some((added, rest)) => {
+    match read_facts(alloc, sig, FILE_LIMITS, bytes, true, "]", beyond(1, tokens)) {
+        Err(mem) => {
+            drop(taken);
+            drop(shown);
+            Err(mem)
+        }
+        Ok(None) => {
+            drop(taken);
+            drop(shown);
+            Ok(None)
+        }
+        Ok(Some((added, rest))) => {
             let doing = boxed(alloc, Doing::Embedded(taken, shown, added))?;
             Ok(Some((doing, rest)))
         }
@@ -258,11 +279,19 @@ fn read_insert<'a>(
         None => Ok(None),
         Some((key, rest)) => {
             if !starts(bytes, rest, ",") {
+                drop(key);
                 return Ok(None);
             }
-            match read_short_term(alloc, sig, FILE_LIMITS, bytes, beyond(1, rest))? {
-                None => Ok(None),
-                Some((value, rest)) => {
+            match read_short_term(alloc, sig, FILE_LIMITS, bytes, beyond(1, rest)) {
+                Err(mem) => {
+                    drop(key);
+                    Err(mem)
+                }
+                Ok(None) => {
+                    drop(key);
+                    Ok(None)
+                }
+                Ok(Some((value, rest))) => {
                     let doing = boxed(alloc, Doing::Insert(key, value))?;
                     Ok(Some((doing, rest)))
                 }

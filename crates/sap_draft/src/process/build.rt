@@ -38,9 +38,16 @@ pub fn comparing(alloc: Global, left: Term, right: Term) -> Result<Box<Branching
 pub fn looking_up(alloc: Global, key: Term, name: &[u8]) -> Result<Box<Branching>, Mem>
     ensures { IfOk result (λ p. chosen p.value ≡ lookup (tree key) (var Msg name.now)) }
 {
-    let name = Name::from_bytes(alloc, name)?;
-    let sort = Sort::Msg;
-    boxed(alloc, Branching::Lookup(key, Var { name, sort }))
+    match Name::from_bytes(alloc, name) {
+        Err(_) => {
+            drop(key);
+            Err(Mem)
+        }
+        Ok(name) => {
+            let sort = Sort::Msg;
+            boxed(alloc, Branching::Lookup(key, Var { name, sort }))
+        }
+    }
 }
 
 /// The use of this process with these arguments.

@@ -27,6 +27,7 @@ fn read_up_to<'a>(
     if starts(bytes, tokens, word) {
         Ok(Some((choice, beyond(1, tokens))))
     } else {
+        drop(choice);
         Ok(None)
     }
 }
@@ -43,11 +44,19 @@ fn read_equality<'a>(
         (words_of bytes.now tokens.now)) }
 {
     if !starts(bytes, tokens, "=") {
+        drop(left);
         return Ok(None);
     }
-    match read_short_term(alloc, sig, FILE_LIMITS, bytes, beyond(1, tokens))? {
-        None => Ok(None),
-        Some((right, rest)) => {
+    match read_short_term(alloc, sig, FILE_LIMITS, bytes, beyond(1, tokens)) {
+        Err(mem) => {
+            drop(left);
+            Err(mem)
+        }
+        Ok(None) => {
+            drop(left);
+            Ok(None)
+        }
+        Ok(Some((right, rest))) => {
             let choice = comparing(alloc, left, right)?;
             read_up_to(bytes, choice, "then", rest)
         }
@@ -95,11 +104,15 @@ fn read_entry<'a>(
     ensures { Gives bytes.now (λ p. chosen p.value) result (entry (tree key) (words_of bytes.now tokens.now)) }
 {
     if !starts(bytes, tokens, "as") {
+        drop(key);
         return Ok(None);
     }
     let rest = beyond(1, tokens);
     match name_at(bytes, rest) {
-        None => Ok(None),
+        None => {
+            drop(key);
+            Ok(None)
+        }
         Some(name) => read_found(alloc, bytes, key, name, beyond(1, rest)),
     }
 }

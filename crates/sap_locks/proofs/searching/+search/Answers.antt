@@ -30,8 +30,8 @@ search-returns-in_ok-a-in-Unlock-clause-found t c =
     let same : c.args.before + 0 ≡ c.args.before = omega arith in
     rw (c.in-Unlock.is, same) h
 
-pub search_both-returns-clause-lowest : goal.search_both-returns-clause-lowest
-search_both-returns-clause-lowest t c = rw (c.joined.ensures.lowest, c.in_ok-a.ensures.lowest, c.in_ok-b.ensures.lowest) refl
+pub search_both-returns-in-Ok-clause-lowest : goal.search_both-returns-in-Ok-clause-lowest
+search_both-returns-in-Ok-clause-lowest t c = rw (c.joined.ensures.lowest, c.in_ok-a.ensures.lowest, c.in-Ok.ensures.lowest) refl
 
-pub search_both-returns-clause-found : goal.search_both-returns-clause-found
-search_both-returns-clause-found t c = rw (c.joined.ensures.found, c.in_ok-a.ensures.found, c.in_ok-b.ensures.found, c.in_ok-a.ensures.same, c.in_ok-a.ensures.after) refl
+pub search_both-returns-in-Ok-clause-found : goal.search_both-returns-in-Ok-clause-found
+search_both-returns-in-Ok-clause-found t c = rw (c.joined.ensures.found, c.in_ok-a.ensures.found, c.in-Ok.ensures.found, c.in_ok-a.ensures.same, c.in_ok-a.ensures.after) refl

@@ -24,14 +24,14 @@ up_to_then g t u ws zs made s h e = rw (s, h, e) refl
 gave : {X Y : Type 0} (z : List ℕ) (view : X → Y) (o : Option (X × Bor (List Token))) (p : X × Bor (List Token)) (read : Read Y) → o ≡ Some p → Gives {E = Mem} z view (Ok o) read → read ≡ Some (view p.0, words_of z p.1.now)
 gave {X} z view o p read e h = subst (λ (x : Option (X × Bor (List Token))). Gives {E = Mem} z view (Ok x) read) e h
 
-pub returns-in_ok-choice-in-Some : goal.returns-in_ok-choice-in-Some
-returns-in_ok-choice-in-Some c =
+pub returns-in_ok-choice-in-Ok-Some : goal.returns-in_ok-choice-in-Ok-Some
+returns-in_ok-choice-in-Ok-Some c =
     let z = c.args.bytes.now in
     let ts = c.args.tokens.now in
-    let right = c.in-Some.right in
-    let rest = c.in-Some.rest.now in
+    let right = c.in-Ok-Some.right in
+    let rest = c.in-Ok-Some.rest.now in
     let starts_so = sym c.starts.ensures ∙ c.if-not-starts.false in
     let behind : drop 1 (words_of z ts) ≡ words_of z c.beyond.result.now = sym (words-drop z 1 ts) ∙ ap (words_of z) (sym c.beyond.ensures) in
-    let told = gave z tree c.in_ok-read_short_term.field-0 (c.in-Some.right, c.in-Some.rest) (short_term c.args.sig.now FILE_LIMITS (words_of z c.beyond.result.now)) c.in-Some.is c.in_ok-read_short_term.ensures in
+    let told = gave z tree c.in-Ok-Some.field-0 (c.in-Ok-Some.right, c.in-Ok-Some.rest) (short_term c.args.sig.now FILE_LIMITS (words_of z c.beyond.result.now)) c.in-Ok-Some.field-0-is c.in-Ok-Some.ensures in
     let read = ap (short_term c.args.sig.now FILE_LIMITS) behind ∙ told in
-    subst (λ r. Gives z (λ p. chosen p.value) c.read_up_to.result r) (sym (up_to_then c.args.sig.now (tree c.args.left) (tree right) (words_of z ts) (words_of z rest) (chosen c.in_ok-choice-in-Some.choice.value) starts_so read c.in_ok-choice-in-Some.ensures)) c.read_up_to.ensures
+    subst (λ r. Gives z (λ p. chosen p.value) c.read_up_to.result r) (sym (up_to_then c.args.sig.now (tree c.args.left) (tree right) (words_of z ts) (words_of z rest) (chosen c.in_ok-choice-in-Ok-Some.choice.value) starts_so read c.in_ok-choice-in-Ok-Some.ensures)) c.read_up_to.ensures
