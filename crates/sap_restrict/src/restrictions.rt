@@ -3,7 +3,7 @@ ghost use Rattle.std.specs.Prelude.{◌≡◌, ◌++◌, ◌∷◌, [], map, IfO
 ghost use Rattle.sap_process.specs.Proc.{proc};
 ghost use Rattle.sap_restrict.specs.Restrictions.{is_generated, restriction_name, named, needed_restrictions};
 
-use crate::{Which, needed, standard};
+use crate::{Which, WhichList, needed, standard};
 use sap_formula::{Restriction, RestrictionList};
 use sap_process::Process;
 use sap_terms::{Mem, Name};
@@ -13,24 +13,24 @@ use std::alloc::Global;
 pub fn restriction(alloc: Global, which: Which) -> Result<Restriction, Mem>
     ensures { IfOk result (λ r. r ≡ named which) }
 {
-    let name = name_of(alloc, which)?;
+    let name = Name::from_bytes(alloc, name_of(which).as_bytes())?;
     Ok(Restriction {
         name,
         formula: standard(alloc, which)?,
     })
 }
 
-fn name_of(alloc: Global, which: Which) -> Result<Name, Mem>
-    ensures { IfOk result (λ n. n ≡ restriction_name which) }
+fn name_of(which: Which) -> &'static str
+    ensures { result.now ≡ restriction_name which }
 {
     match which {
-        Which::Init => Name::from_bytes(alloc, b"sapic_init"),
-        Which::Eq => Name::from_bytes(alloc, b"sapic_eq"),
-        Which::NotEq => Name::from_bytes(alloc, b"sapic_noteq"),
-        Which::In => Name::from_bytes(alloc, b"sapic_in"),
-        Which::NotIn => Name::from_bytes(alloc, b"sapic_notin"),
-        Which::Lock => Name::from_bytes(alloc, b"sapic_lock"),
-        Which::InEv => Name::from_bytes(alloc, b"sapic_inev"),
+        Which::Init => "sapic_init",
+        Which::Eq => "sapic_eq",
+        Which::NotEq => "sapic_noteq",
+        Which::In => "sapic_in",
+        Which::NotIn => "sapic_notin",
+        Which::Lock => "sapic_lock",
+        Which::InEv => "sapic_inev",
     }
 }
 
@@ -39,10 +39,15 @@ fn name_of(alloc: Global, which: Which) -> Result<Name, Mem>
 pub fn needed_restrictions(alloc: Global, p: &Process) -> Result<RestrictionList, Mem>
     ensures { IfOk result (λ rs. rs ≡ needed_restrictions (proc p.now)) }
 {
-    let needed = needed(alloc, p)?;
+    restrictions(alloc, &needed(alloc, p)?)
+}
+
+fn restrictions(alloc: Global, which: &WhichList) -> Result<RestrictionList, Mem>
+    ensures { IfOk result (λ rs. rs ≡ map named which.now) }
+{
     let mut all = RestrictionList::new(alloc);
-    for which in needed.as_slice() {
-        push_restriction(alloc, *which, &mut all)?;
+    for one in which.as_slice() {
+        push_restriction(alloc, *one, &mut all)?;
     }
     Ok(all)
 }

@@ -1,12 +1,12 @@
 //! Formulas made after shapes.
 ghost use Rattle.std.specs.Prelude.{◌≡◌, ◌++◌, [], ◌∷◌, map, IfOk, OnOk};
-ghost use Rattle.sap_formula.specs.Form.{action, equal, same_time, earlier, both, implies, negation};
+ghost use Rattle.sap_formula.specs.Form.{action, equal, both, implies, negation};
 ghost use Rattle.sap_formula.specs.View.{form};
 ghost use Rattle.sap_terms.specs.AdversaryFacts.{linear};
 ghost use Rattle.sap_terms.specs.Tree.{variable};
 ghost use Rattle.sap_terms.specs.View.{tree};
 ghost use Rattle.sap_restrict.specs.Standard.{any_message};
-ghost use Rattle.sap_restrict.specs.code.Shapes.{binder, joined, quantified, says};
+ghost use Rattle.sap_restrict.specs.code.Shapes.{binder, joined, quantified, says, timed};
 
 use sap_formula::{Binder, Binders, Formula, both};
 use sap_terms::{Fact, Items, Mem, Name, Sort, Term, TermList, Var};
@@ -46,8 +46,7 @@ pub(crate) fn built(alloc: Global, shape: &Shape<'_>) -> Result<Box<Formula>, Me
     match shape {
         Shape::Shows(name, vars, t) => shown(alloc, name, vars, t),
         Shape::Equal(v, w) => equal(alloc, *v, *w),
-        Shape::Same(a, b) => same(alloc, a, b),
-        Shape::Less(a, b) => less(alloc, a, b),
+        Shape::Same(a, b) | Shape::Less(a, b) => timed(alloc, shape, a, b),
         Shape::Not(f) => negated(alloc, built(alloc, f)?),
         Shape::And(f, g) | Shape::Or(f, g) | Shape::Imp(f, g) => {
             joined(alloc, shape, built_both(alloc, f, g)?)
@@ -134,18 +133,15 @@ fn equal(alloc: Global, v: u8, w: u8) -> Result<Box<Formula>, Mem>
     boxed(alloc, Formula::Equal(two.0, two.1))
 }
 
-fn same(alloc: Global, a: &[u8], b: &[u8]) -> Result<Box<Formula>, Mem>
-    ensures { IfOk result (λ f. form f.value ≡ same_time a.now b.now) }
+/// The relation of this shape between two times.
+fn timed(alloc: Global, like: &Shape<'_>, a: &[u8], b: &[u8]) -> Result<Box<Formula>, Mem>
+    ensures { IfOk result (λ f. form f.value ≡ timed like.now a.now b.now) }
 {
     let two = both(Name::from_bytes(alloc, a), Name::from_bytes(alloc, b))?;
-    boxed(alloc, Formula::Same(two.0, two.1))
-}
-
-fn less(alloc: Global, a: &[u8], b: &[u8]) -> Result<Box<Formula>, Mem>
-    ensures { IfOk result (λ f. form f.value ≡ earlier a.now b.now) }
-{
-    let two = both(Name::from_bytes(alloc, a), Name::from_bytes(alloc, b))?;
-    boxed(alloc, Formula::Less(two.0, two.1))
+    match like {
+        Shape::Same(_, _) => boxed(alloc, Formula::Same(two.0, two.1)),
+        _ => boxed(alloc, Formula::Less(two.0, two.1)),
+    }
 }
 
 fn negated(alloc: Global, f: Box<Formula>) -> Result<Box<Formula>, Mem>

@@ -1,5 +1,5 @@
 //! Which forms of process a process has.
-ghost use Rattle.std.specs.Prelude.{◌≡◌, ◌||◌, true};
+ghost use Rattle.std.specs.Prelude.{◌≡◌, ◌||◌};
 ghost use Rattle.sap_process.specs.Proc.{proc};
 ghost use Rattle.sap_restrict.specs.Needed.{has, is_test, is_lookup, is_lock, is_input};
 
@@ -45,10 +45,16 @@ fn with_head(p: &Process, uses: Uses) -> Uses
     ensures input { result.input ≡ (is_input (proc p.now) || uses.input) }
 {
     match p {
-        Process::If(_, _, _, _) => with_test(uses),
-        Process::Lookup(_, _, _, _) => with_lookup(uses),
-        Process::Lock(_, _, _) => with_lock(uses),
-        Process::In(_, _) | Process::Recv(_, _, _) | Process::Send(_, _, _) => with_input(uses),
+        Process::If(_, _, _, _) => Uses { test: true, ..uses },
+        Process::Lookup(_, _, _, _) => Uses {
+            lookup: true,
+            ..uses
+        },
+        Process::Lock(_, _, _) => Uses { lock: true, ..uses },
+        Process::In(_, _) | Process::Recv(_, _, _) | Process::Send(_, _, _) => Uses {
+            input: true,
+            ..uses
+        },
         _ => uses,
     }
 }
@@ -65,35 +71,5 @@ fn joined(one: Uses, other: Uses) -> Uses
         lookup: one.lookup || other.lookup,
         lock: one.lock || other.lock,
         input: one.input || other.input,
-    }
-}
-
-fn with_test(uses: Uses) -> Uses
-    ensures { result ≡ record uses { test = true } }
-{
-    Uses { test: true, ..uses }
-}
-
-fn with_lookup(uses: Uses) -> Uses
-    ensures { result ≡ record uses { lookup = true } }
-{
-    Uses {
-        lookup: true,
-        ..uses
-    }
-}
-
-fn with_lock(uses: Uses) -> Uses
-    ensures { result ≡ record uses { lock = true } }
-{
-    Uses { lock: true, ..uses }
-}
-
-fn with_input(uses: Uses) -> Uses
-    ensures { result ≡ record uses { input = true } }
-{
-    Uses {
-        input: true,
-        ..uses
     }
 }

@@ -32,6 +32,11 @@ joined (And' a f b g) p q = both p q
 joined (Or' a f b g) p q = either p q
 joined _ p q = implies p q
 
+-- its relation between two times
+abbrev pub timed : Shape → List ℕ → List ℕ → Form
+timed (Same a b) i j = same_time i j
+timed _ i j = earlier i j
+
 -- its quantifier over a formula
 abbrev pub quantified : Shape → List Binder → Form → Form
 quantified (All' letters a f) bs p = every bs p
