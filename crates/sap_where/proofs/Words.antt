@@ -8,11 +8,6 @@ use Rattle.std.proofs.Common.{◌≤◌}
 use Rattle.sap_text.specs.Spans.{IsWithin}
 use Rattle.sap_where.specs.Where.{end_of}
 
-pub dropped : (z : List ℕ) (n : ℕ) (ts : List Token) → words_of z (drop n ts) ≡ drop n (words_of z ts)
-dropped z zero ts = refl
-dropped z (suc n) [] = refl
-dropped z (suc n) (t ∷ ts) = dropped z n ts
-
 pub last_is : (ts : List Token) (t : Token) → Some t ≡ slice_get ts (length ts - 1) → t.to ≡ end_of ts
 last_is [] t e = cc
 last_is (u ∷ []) t e = let same : t ≡ u = cc in ap (λ (q : Token). q.to) same
