@@ -1,5 +1,5 @@
 -- The last place before another is one.
-use Rattle.std.proofs.Common.{◌≡◌, ◌<◌, ℕ, zero, suc, refl, arith}
+use Rattle.std.proofs.Common.{◌≡◌, ℕ}
 use Rattle.sap_terms.proofs.PlainLaws.Numbers.{same_number}
 use Rattle.sap_where.specs.code.Steps.{IsLastBefore}
 

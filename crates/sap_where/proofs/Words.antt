@@ -1,8 +1,7 @@
 -- The words of tokens, and where the last of them ends.
-use Rattle.std.proofs.Common.{◌≡◌, ◌-◌, ℕ, zero, suc, List, [], ◌∷◌, drop, length, refl, ap, subst, arith, Some, None}
+use Rattle.std.proofs.Common.{◌≡◌, ◌-◌, ℕ, suc, List, [], ◌∷◌, length, refl, ap, subst, arith, Some, None}
 use Rattle.std.specs.Prelude.{slice_get}
 use Rattle.sap_text.specs.declared.token.Token.{Token}
-use Rattle.sap_grammar.specs.Words.{words_of}
 use Rattle.std.specs.List.{All}
 use Rattle.std.proofs.Common.{◌≤◌}
 use Rattle.sap_text.specs.Spans.{IsWithin}
