@@ -1,8 +1,7 @@
 -- What is wanted can always be completed, and what a part is otherwise weighs less.
 use Rattle.std.proofs.Common.{rules, ◌≡◌, ◌<◌, ◌+◌, ℕ, Bool, true, List, [], ◌∷◌, ◌++◌, Option, Some, None, refl, subst, arith}
 use Rattle.std.specs.Prelude.{nat_lt}
-use Rattle.std.proofs.lemmas.Slice.Eq.{bytes_eq-Decides}
-use Rattle.std.specs.Str.{bytes_eq}
+use Rattle.sap_terms.proofs.PlainLaws.Known.{own_name}
 use Rattle.sap_grammar.specs.Words.{Word, mark, name}
 use Rattle.sap_expect.specs.declared.wanted.Part.{Part}
 use Rattle.sap_expect.specs.declared.wanted.Part.TheVariants.{File, Items, Builtin, MoreBuiltins, Function, Privacy, MoreFunctions, Parameters, MoreParameters, Lemma, Attribute, MoreAttributes, Mode, Sequence, Arguments, Then, Else, Bars, InnerBars, NewName, Message, Facts, MoreFacts, Fact, Arrow, Shown, MoreShown, Term, Application, Terms, MoreTerms, MoreParts, Formula, Joined, Second, SecondJoined, InnerFormula, InnerJoined, InnerSecond, InnerSecondJoined, Truth, Atom, UpperAtom, LowerAtom, Times, Time, Binders, MoreBinders}
@@ -65,13 +64,10 @@ ended MoreBinders vs = refl
 pub Completed : List Wanted → Type 0
 Completed vs = (ws : List Word) × Reads vs ws
 
-same_bytes : (x : List ℕ) → bytes_eq x x ≡ true
-same_bytes x = (bytes_eq-Decides x x).1 refl
-
 one_more : (v : Wanted) (vs : List Wanted) → Completed vs → Completed (v ∷ vs)
 unfolding Completed
-one_more (sign m) vs c = (mark m ∷ c.0, reads_word (takes_word (same_bytes m)) c.1)
-one_more (word x) vs c = (name x ∷ c.0, reads_word (takes_word (same_bytes x)) c.1)
+one_more (sign m) vs c = (mark m ∷ c.0, reads_word (takes_word (own_name m)) c.1)
+one_more (word x) vs c = (name x ∷ c.0, reads_word (takes_word (own_name x)) c.1)
 one_more any_name vs c = (endings.any_name ∷ c.0, reads_word (takes_word refl) c.1)
 one_more small vs c = (endings.any_name ∷ c.0, reads_word (takes_word refl) c.1)
 one_more capital vs c = (a_capital ∷ c.0, reads_word (takes_word refl) c.1)

@@ -2,8 +2,10 @@
 use Rattle.std.proofs.Common.{◌≡◌, ◌≤◌, ◌<◌, ◌+◌, ℕ, zero, suc, List, [], ◌∷◌, ◌++◌, append_assoc, refl, sym, ap, ◌∙◌, subst, arith, length, get_or, take, drop}
 use Rattle.std.proofs.lemmas.List.{append-nil}
 use Rattle.std.proofs.lemmas.List.{length-map, length-reverse}
+use Rattle.sap_terms.proofs.PlainLaws.Lists.{front_self}
 use Rattle.sap_text.specs.declared.token.Token.{Token}
 use Rattle.sap_grammar.specs.Words.{Word, word_of, words_of}
+use Rattle.sap_grammar.proofs.ReadingLaws.Tokens.{length-words}
 use Rattle.sap_expect.specs.declared.wanted.Part.TheVariants.{File}
 use Rattle.sap_expect.specs.FileTable.{FollowsTable, Reads, Takes, Wanted, part, reads_end, reads_word}
 use Rattle.sap_expect.specs.declared.wanted.Wanted as code
@@ -53,10 +55,6 @@ wrong_at ws k us w rest g e never = record {
         ap (λ (j : ℕ). take j ws ++ more) n
         ∙ (ap (λ (x : List Word). x ++ more) (one_longer k ws rest w e) ∙ append_assoc (take k ws) (w ∷ []) more)
 
-take_all : (ws : List Word) → take (length ws) ws ≡ ws
-take_all [] = refl
-take_all (w ∷ ws) = ap (λ (x : List Word). w ∷ x) (take_all ws)
-
 no_end : (us : List Wanted) → (us ≡ [] → ⊥) → Reads us [] → ⊥
 no_end [] never r = never refl
 no_end (v ∷ us) never r = by [] r refl
@@ -73,17 +71,13 @@ end_at ws k us e g never = record {
 }
   where
     whole : take k ws ≡ ws
-    whole = ap (λ (j : ℕ). take j ws) e ∙ take_all ws
+    whole = ap (λ (j : ℕ). take j ws) e ∙ front_self ws
 
 pub follows : (ws : List Word) (k : ℕ) (us : List Wanted) → k ≡ length ws → Goes start (take k ws) us → us ≡ [] → FollowsTable ws
 follows ws k us e g none =
-    let whole : take k ws ≡ ws = ap (λ (j : ℕ). take j ws) e ∙ take_all ws in
+    let whole : take k ws ≡ ws = ap (λ (j : ℕ). take j ws) e ∙ front_self ws in
     subst (λ (x : List Word). Reads start x) (append-nil (take k ws) ∙ whole)
     (g.on [] (subst (λ (x : List Wanted). Reads x []) (sym none) reads_end))
-
-pub words-length : (z : List ℕ) (ts : List Token) → length (words_of z ts) ≡ length ts
-words-length z [] = refl
-words-length z (t ∷ ts) = omega (arith, words-length z ts)
 
 -- the same by the token of this number
 token_at : (z : List ℕ) (k : ℕ) (ts : List Token) (d : Token) → k < length ts → drop k (words_of z ts) ≡ word_of z (get_or ts k d) ∷ drop (suc k) (words_of z ts)
@@ -104,7 +98,7 @@ next_token z ts k d us next lt g t =
     (goes_more start us next (take k (words_of z ts)) (word_of z (get_or ts k d)) g t)
 
 all_words : (z : List ℕ) (ts : List Token) (k : ℕ) → k ≤ length ts → length ts ≤ k → k ≡ length (words_of z ts)
-all_words z ts k le ge = omega (arith, le, ge, words-length z ts)
+all_words z ts k le ge = omega (arith, le, ge, length-words z ts)
 
 stacked-length : (vs : List code.Wanted) → length (stacked vs) ≡ length vs
 stacked-length vs = length-reverse (all_wanted vs) ∙ length-map vs wanted

@@ -1,8 +1,9 @@
 -- The words of formulas follow the table.
 use Rattle.std.proofs.Common.{◌≡◌, ℕ, Bool, true, false, List, [], ◌∷◌, ◌++◌, refl, sym, ◌∙◌, ap, subst, arith}
-use Rattle.std.specs.Prelude.{codes, ◌||◌}
+use Rattle.std.specs.Prelude.{codes}
 use Rattle.std.proofs.lemmas.Slice.Eq.{bytes_eq-Decides}
 use Rattle.std.specs.Str.{bytes_eq}
+use Rattle.std.proofs.lemmas.Bool.{or_parts}
 use Rattle.sap_terms.specs.declared.fact.Fact.{Fact}
 use Rattle.sap_terms.specs.Signature.{Sig}
 use Rattle.sap_terms.specs.Tree.{Tree}
@@ -209,10 +210,6 @@ atom_row inner_second {w = w} {ws = ws} by_pub h = instead (w ∷ ws) refl refl 
 atom_row inner_second {w = w} {ws = ws} by_tuple h = instead (w ∷ ws) refl refl h
 atom_row inner_second {w = w} {ws = ws} by_quoted h = instead (w ∷ ws) refl refl h
 
-both_false : (b c : Bool) → (b || c) ≡ false → (b ≡ false) × (c ≡ false)
-both_false false c e = (refl, e)
-both_false true c e = absurd (cc)
-
 not_upper : (x : List ℕ) → is_lower x ≡ true → is_upper x ≡ false
 not_upper [] e = refl
 not_upper (b ∷ x) e = grind arith
@@ -281,10 +278,10 @@ module _ (r : List Word) where
   left_follows : {g : Sig} {t : Tree} {a b : List Word} {vs : List Wanted} (s : Standing) → IsTerm g t a (mark (codes "=") ∷ b) → begins_truth a ≡ false
       → Reads (part Term ∷ part (joined s) ∷ vs) (b ++ r) → Reads (part (whole s) ∷ vs) (a ++ r)
   left_follows s (term_constant {x = x} is) never h =
-      let both = both_false (bytes_eq x (codes "T")) (bytes_eq x (codes "F")) never in
+      let both = or_parts (bytes_eq x (codes "T")) (bytes_eq x (codes "F")) never in
       name_row s both.0 both.1 (named x (on_row refl h) (on_row refl h))
   left_follows s (term_message {x = x} free) never h =
-      let both = both_false (bytes_eq x (codes "T")) (bytes_eq x (codes "F")) never in
+      let both = or_parts (bytes_eq x (codes "T")) (bytes_eq x (codes "F")) never in
       name_row s both.0 both.1 (named x (on_row refl h) (on_row refl h))
   left_follows s term_fresh never h = atom_row s by_fresh (on_row refl (on_word refl (on_word refl h)))
   left_follows s term_pub never h = atom_row s by_pub (on_row refl (on_word refl (on_word refl h)))
@@ -298,7 +295,7 @@ module _ (r : List Word) where
       → Reads (part Time ∷ part (joined s) ∷ vs) (b ++ r) → Reads (part (whole s) ∷ vs) (a ++ r)
   earlier_follows s time_signed never h = atom_row s by_hash (on_row refl (on_word refl (on_row refl h)))
   earlier_follows s (time_plain {i = i}) never h =
-      let both = both_false (bytes_eq i (codes "T")) (bytes_eq i (codes "F")) never in
+      let both = or_parts (bytes_eq i (codes "T")) (bytes_eq i (codes "F")) never in
       name_row s both.0 both.1 (named i (on_row refl h) (on_row refl h))
 
   atom_follows : {g : Sig} {f : Form} {a b : List Word} {vs : List Wanted} (s : Standing) → IsAtom g f a b → Goes s vs (b ++ r) → Reads (part (whole s) ∷ vs) (a ++ r)

@@ -1,6 +1,5 @@
 -- The words of a file follow the table.
 use Rattle.std.proofs.Common.{◌≡◌, ◌≤◌, ◌<◌, ◌+◌, ℕ, zero, suc, Bool, true, false, List, [], ◌∷◌, ◌++◌, length, take, drop, None, refl, sym, ◌∙◌, ap, subst, rules}
-use Rattle.std.proofs.lemmas.Slice.Eq.{bytes_eq-Decides}
 use Rattle.std.specs.Prelude.{codes, nat_le, ◌||◌}
 use Rattle.std.specs.Str.{bytes_eq}
 use Rattle.sap_text.specs.declared.token.Token.{Token}
@@ -8,13 +7,15 @@ use Rattle.sap_terms.specs.Signature.{Sig}
 use Rattle.sap_terms.specs.declared.signature.Symbol.{Symbol}
 use Rattle.sap_terms.specs.declared.signature.Builtin.{Builtin}
 use Rattle.sap_terms.specs.declared.limits.TheConstants.{MOST_ARITY}
+use Rattle.sap_terms.proofs.PlainLaws.Known.{one_name}
 use Rattle.sap_formula.specs.declared.lemma.Mode.{Mode}
-use Rattle.sap_grammar.specs.Words.{Word, mark, name, number, word_of, words_of}
+use Rattle.sap_grammar.specs.Words.{Word, mark, name, number, words_of}
 use Rattle.sap_grammar.specs.Words as words_mod
-use Rattle.sap_grammar.specs.Cut.{IsCut, Placed, StartsItem, cut_none, cut_one, is_item_word, placed, words}
+use Rattle.sap_grammar.specs.Cut.{IsCut, Placed, StartsItem, cut_none, cut_one, is_item_word, words}
 use Rattle.sap_grammar.specs.Declarations.{AreBuiltins, AreSymbols, IsBuiltin, IsSymbol, builtins_last, builtins_more, spells_asymmetric, spells_hashing, spells_private, spells_public, spells_revealing, spells_signing, spells_symmetric, symbols_last, symbols_more, value}
 use Rattle.sap_grammar.specs.Items.{items_end, items_more}
 use Rattle.sap_grammar.specs.declared.limits.Limits.{Limits}
+use Rattle.sap_grammar.proofs.ReadingLaws.Tokens.{words_placed}
 use Rattle.sap_statements.specs.Statements.{AreAttributes, HasAttributes, IsAttribute, IsMode, IsStatement, attributes_last, attributes_more, is_lemma, is_restriction, is_reuse, is_sources, is_use_induction, mode_all, mode_exists, mode_missing, with_attributes, without_attributes}
 use Rattle.sap_statements.specs.declared.statement.Statement.{Statement}
 use Rattle.sap_draft.specs.ProcessGrammar.{Ending, closed, dangling}
@@ -43,15 +44,12 @@ pub record Parts (w : Word) : Type 0 where
 pub data NextItem : List Word → Type 0 where
   next_item : {w : Word} {ws : List Word} → Parts w → NextItem (w ∷ ws)
 
-same_bytes : (x y : List ℕ) → bytes_eq x y ≡ true → x ≡ y
-same_bytes x y e = (bytes_eq-Decides x y).0 e
-
 -- it is this word, or one of the others
 one_of : (m k : List ℕ) {others : Bool} → Parts (mark k) → (others ≡ true → Parts (mark m)) → (bytes_eq m k || others) ≡ true → Parts (mark m)
 one_of m k {others = o} p f e = by (bytes_eq m k) refl e
   where
     by : (b : Bool) → bytes_eq m k ≡ b → (b || o) ≡ true → Parts (mark m)
-    by true g h = subst (λ (x : List ℕ). Parts (mark x)) (sym (same_bytes m k g)) p
+    by true g h = subst (λ (x : List ℕ). Parts (mark x)) (sym (one_name m k g)) p
     by false g h = f h
 
 none_left : (m : List ℕ) → false ≡ true → Parts (mark m)
@@ -176,14 +174,10 @@ items_follow (cut_one p ps rest never starts c) (items_more s q) =
     subst (λ (x : List Word). Reads (part Items ∷ []) x) (sym (words-append (p ∷ ps) rest))
     (item_follows (words rest) (next_words starts c q) s (items_follow c q))
 
-placed_words : (z : List ℕ) (ts : List Token) → words (placed z ts) ≡ words_of z ts
-placed_words z [] = refl
-placed_words z (t ∷ ts) = ap (λ (x : List Word). word_of z t ∷ x) (placed_words z ts)
-
 pub file_follows : (z : List ℕ) (ts : List Token) (x : List ℕ) (cut : List (List Placed)) (g : Sig) (is : List Standing) → IsParted z ts x cut → AreItems g cut is
     → FollowsTable (words_of z ts)
 file_follows z ts x cut g is p h =
-    let all : words_of z ts ≡ mark (codes "theory") ∷ name x ∷ mark (codes "begin") ∷ words p.rest = sym (placed_words z ts) ∙ ap words p.header.spelled in
+    let all : words_of z ts ≡ mark (codes "theory") ∷ name x ∷ mark (codes "begin") ∷ words p.rest = sym (words_placed z ts) ∙ ap words p.header.spelled in
     subst (λ (ws : List Word). Reads (part File ∷ []) ws) (sym all) (on_row refl (on_word refl (on_word refl (items_follow p.items h))))
 
 -- so no file goes on with a word that is wrong

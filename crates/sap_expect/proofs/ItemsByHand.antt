@@ -1,18 +1,13 @@
 -- Where small files are wrong by the table.
 use Rattle.std.proofs.Common.{◌≡◌, ◌≤◌, ◌<◌, ◌+◌, ℕ, zero, suc, Bool, true, false, List, [], ◌∷◌, ◌++◌, Option, Some, None, append_assoc, refl, ap, ◌∙◌, subst, arith, length, take, drop}
 use Rattle.std.proofs.lemmas.List.{append-nil}
+use Rattle.sap_terms.proofs.PlainLaws.Numbers.{same_number}
 use Rattle.sap_grammar.specs.Words.{Word}
 use Rattle.sap_expect.specs.FileTable.{FollowsTable, Reads, Wanted, reads_end}
 use Rattle.sap_expect.specs.ItemExamples.{another_attribute, another_builtin, another_privacy, behind_nil, capital_symbol, empty_use, endless, large_arity, last_comma, name_apart, no_binders, no_time, one_else, one_inserted, one_part, persistent_act, reserved_name, signed_entry, small_event, three_terms, two_elses, two_equivalences, two_times, unclosed, with_arguments, with_comma}
 use Rattle.sap_expect.specs.FirstWrong.{GoOn, IsFirstWrong}
 use Rattle.sap_expect.proofs.FirstWrong.{end_at, start, wrong_at}
 use Rattle.sap_expect.proofs.Reaching.{Answer, next_at, next_told, reach, reach_goes, turns}
-
-between : (m n : ℕ) → (m < n → ⊥) → (n < m → ⊥) → m ≡ n
-between zero zero f g = refl
-between zero (suc n) f g = absurd (f (omega arith))
-between (suc m) zero f g = absurd (g (omega arith))
-between (suc m) (suc n) f g = ap suc (between m n (λ lt. f (omega (arith, lt))) (λ lt. g (omega (arith, lt))))
 
 split : (m n : ℕ) (ws : List Word) → m ≤ n → take n ws ≡ take m ws ++ drop m (take n ws)
 split zero n ws le = refl
@@ -33,7 +28,7 @@ not_wrong Is ws j k a b lt =
     a.wrong (omega (arith, lt, most)) (fewer Is (j + 1) k ws (omega (arith, lt)) b.before)
 
 pub one_wrong : (Is : List Word → Type 0) (ws : List Word) (j k : ℕ) → IsFirstWrong Is ws j → IsFirstWrong Is ws k → j ≡ k
-one_wrong Is ws j k a b = between j k (not_wrong Is ws j k a b) (not_wrong Is ws k j b a)
+one_wrong Is ws j k a b = same_number j k (not_wrong Is ws j k a b) (not_wrong Is ws k j b a)
 
 abbrev is_refused : Answer → Bool
 is_refused None = false

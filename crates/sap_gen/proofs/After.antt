@@ -26,8 +26,8 @@ use Rattle.sap_translate.specs.Members.{Member, here, later}
 use Rattle.sap_translate.specs.Scoped.{AllWithin, FactsWithin}
 use Rattle.sap_gen.specs.Moves.{IsMove, Move, Moves, IsPlain, IsAsTaken, AreAsTaken, ArePlain, IsShortened, IsShortening}
 use Rattle.sap_translate.specs.relation.Names.{same_var}
-use Rattle.sap_gen.proofs.Same.{same_var-refl, same_var-sound}
 use Rattle.sap_translate.proofs.Shared.Totals.{total-append}
+use Rattle.sap_translate.proofs.Shared.Facts.{same_var_self, same_var_true}
 use Rattle.sap_gen.proofs.OneOutcome.{one_outcome}
 use Rattle.sap_gen.proofs.Following.{counts-flat, carried-rules-show-the-same}
 use Rattle.sap_gen.proofs.Choices.{Agree, on_none, on_more, instance_agrees}
@@ -41,13 +41,13 @@ chosen (w ∷ vs) (t ∷ ts) v = if same_var w v then t else chosen vs ts v
 
 chosen-one : (σ : Choice) (vs : List Var) (v : Var) → Member v vs → chosen vs (map σ vs) v ≡ σ v
 chosen-one σ [] v i = elim i [ ]
-chosen-one σ (v ∷ vs) _ here = at (same_var v v) (same_var-refl v) where
+chosen-one σ (v ∷ vs) _ here = at (same_var v v) (same_var_self v) where
   at : (b : Bool) → b ≡ true → (if b then σ v else chosen vs (map σ vs) v) ≡ σ v
   at true e = refl
   at false e = cc
 chosen-one σ (w ∷ vs) v (later i) = at (same_var w v) refl (chosen-one σ vs v i) where
   at : (b : Bool) → same_var w v ≡ b → chosen vs (map σ vs) v ≡ σ v → (if b then σ w else chosen vs (map σ vs) v) ≡ σ v
-  at true e r = ap σ (same_var-sound w v e)
+  at true e r = ap σ (same_var_true w v e)
   at false e r = r
 
 agree_each : (σ τ : Choice) (all vs : List Var) → ((v : Var) → Member v vs → τ v ≡ σ v) → Agree σ τ vs

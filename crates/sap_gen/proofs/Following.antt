@@ -23,7 +23,7 @@ use Rattle.sap_gen.proofs.Weights.{adds_total, linear_spent}
 use Rattle.sap_translate.proofs.Shared.Totals.{total-append, total_found}
 use Rattle.sap_translate.proofs.Shared.Takings.{takes_total}
 use Rattle.sap_translate.specs.relation.Names.{same_fact}
-use Rattle.sap_gen.proofs.Same.{same_fact-refl}
+use Rattle.sap_translate.proofs.Shared.Facts.{same_fact_self}
 use Rattle.sap_gen.proofs.Taking.{itself, Matches, take_too, take_one, Live, found_live, used_live}
 
 -- what is taken from normal facts is normal
@@ -232,7 +232,7 @@ module _ (g : Sig) (rules : List Rule) where
     shows = refl;
   }
   settle_run base n fs hs (step rest q τ f more c u linear a d) s full r h =
-      let one_of : count (same_fact f) f ≡ 1 = ap (λ (b : Bool). cond b 1 0) (same_fact-refl f) in
+      let one_of : count (same_fact f) f ≡ 1 = ap (λ (b : Bool). cond b 1 0) (same_fact_self f) in
       let x = h (same_fact f) in
       let y = a (same_fact f) in
       let l : Live s.facts f = live_counted s.facts f (omega arith) in

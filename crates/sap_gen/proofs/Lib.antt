@@ -2,7 +2,6 @@ pub mod Lists
 pub mod Carried
 pub mod Lemmas
 pub mod Printable
-mod Same
 mod Weights
 mod Taking
 mod Following

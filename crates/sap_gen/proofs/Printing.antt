@@ -1,9 +1,10 @@
 -- Short theories can be printed, and pass the checks of who reads them back, where the file's theory can and does.
-use Rattle.std.proofs.Common.{◌≡◌, ℕ, Bool, true, false, ◌||◌, List, Option, Some, None, if◌then◌else◌, refl, sym, ap, subst, ◌∙◌}
+use Rattle.std.proofs.Common.{◌≡◌, ℕ, Bool, true, false, List, Option, Some, None, if◌then◌else◌, refl, sym, ap, subst, ◌∙◌}
 use Rattle.std.specs.Prelude.{All, Contains}
 use Rattle.std.specs.List.{list_any}
 use Rattle.std.specs.Str.{bytes_eq}
 use Rattle.std.proofs.lemmas.List.Elements.{All-contains}
+use Rattle.std.proofs.lemmas.Bool.{or_parts, or_from}
 use Rattle.sap_terms.specs.declared.fact.Fact.{Fact}
 use Rattle.sap_grammar.specs.Printable.{IsPrintableFact}
 use Rattle.sap_process.specs.Proc.{Proc}
@@ -27,19 +28,12 @@ use Rattle.sap_gen.proofs.Places.Shortening.{silent_placed}
 
 -- names of fewer rules are repeated no more
 
-unsaid : (a b : Bool) → (a || b) ≡ false → (a ≡ false) × (b ≡ false)
-unsaid true b h = cc
-unsaid false b h = (refl, h)
-
-both_unsaid : (a b : Bool) → a ≡ false → b ≡ false → (a || b) ≡ false
-both_unsaid a b h k = ap (λ x. x || b) h ∙ k
-
 names_fewer : {p : Proc} {rs ss : List Rule} → AreShort p rs ss → (n : List ℕ) → list_any (λ y. bytes_eq y n) (rule_names rs) ≡ false → list_any (λ y. bytes_eq y n) (rule_names ss) ≡ false
 names_fewer no_rules n h = h
-names_fewer (drops {r} {rs} x s) n h = names_fewer s n (unsaid (bytes_eq r.name n) (list_any (λ y. bytes_eq y n) (rule_names rs)) h).1
+names_fewer (drops {r} {rs} x s) n h = names_fewer s n (or_parts (bytes_eq r.name n) (list_any (λ y. bytes_eq y n) (rule_names rs)) h).1
 names_fewer (keeps {r} {rs} {ss} u k s) n h =
-    let parts = unsaid (bytes_eq r.name n) (list_any (λ y. bytes_eq y n) (rule_names rs)) h in
-    both_unsaid (bytes_eq r.name n) (list_any (λ y. bytes_eq y n) (rule_names ss)) parts.0 (names_fewer s n parts.1)
+    let parts = or_parts (bytes_eq r.name n) (list_any (λ y. bytes_eq y n) (rule_names rs)) h in
+    or_from (bytes_eq r.name n) (list_any (λ y. bytes_eq y n) (rule_names ss)) parts.0 (names_fewer s n parts.1)
 
 no_first : (b : Bool) (x : List ℕ) (o : Option (List ℕ)) → (if b then Some x else o) ≡ None → (b ≡ false) × (o ≡ None)
 no_first true x o h = cc

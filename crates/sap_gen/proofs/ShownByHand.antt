@@ -21,6 +21,7 @@ use Rattle.sap_terms.specs.Signature.{Sig}
 use Rattle.sap_terms.specs.Trace.{Trace, shown}
 use Rattle.sap_terms.specs.Tree.{Tree, variable, public, fresh}
 use Rattle.sap_terms.specs.declared.fact.Fact.{Fact}
+use Rattle.sap_terms.proofs.PlainLaws.Items.{first_item}
 use Rattle.sap_translate.specs.Examples.{c, g_fact, plain_fact, term_m}
 use Rattle.sap_gen.specs.ShortExamples.{two_events}
 use Rattle.sap_gen.specs.TraceExamples.{BothShow, NeitherShows, drawn_event, event_alone, told_event}
@@ -40,9 +41,6 @@ neither_shows f t p tr long short e lacks =
     (λ v. lacking ((long.shows tr).1 v), λ v. lacking ((short.shows tr).1 v))
 
 -- what is put out can be given, and a public name always
-
-head_item : {X : Type 0} (x : X) (xs : List X) → Contains (x ∷ xs) x
-head_item x xs = (0, omega arith, refl)
 
 no_item : {X : Type 0} (x : X) → Contains [] x → ⊥
 no_item x m = absurd (omega (arith, m.1))
@@ -124,7 +122,7 @@ drawn_run leaves g =
 pub drawn_before : LeavesAreNormal → (g : Sig) → IsProcessTrace g drawn_event ((k_fact (fresh 0) ∷ []) ∷ (plain_fact ∷ []) ∷ [])
 drawn_before leaves g = (
   drawn_done,
-  ProcessRun.further {c = drawn_out} (ProcessRun.further {c = drawn_out} (drawn_run leaves g) (ProcessStep.knows (fresh 0) (gives_sent leaves g drawn_out 0 (head_item (fresh 0) []))))
+  ProcessRun.further {c = drawn_out} (ProcessRun.further {c = drawn_out} (drawn_run leaves g) (ProcessStep.knows (fresh 0) (gives_sent leaves g drawn_out 0 (first_item (fresh 0) []))))
       (ProcessStep.shows 0 refl (as_it_stands g (codes "A"))),
 )
 
@@ -132,7 +130,7 @@ pub drawn_behind : LeavesAreNormal → (g : Sig) → IsProcessTrace g drawn_even
 drawn_behind leaves g = (
   drawn_done,
   ProcessRun.further {c = drawn_done} (ProcessRun.further {c = drawn_out} (drawn_run leaves g) (ProcessStep.shows 0 refl (as_it_stands g (codes "A"))))
-      (ProcessStep.knows (fresh 0) (gives_sent leaves g drawn_done 0 (head_item (fresh 0) []))),
+      (ProcessStep.knows (fresh 0) (gives_sent leaves g drawn_done 0 (first_item (fresh 0) []))),
 )
 
 -- event A(); event G()

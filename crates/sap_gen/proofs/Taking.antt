@@ -7,9 +7,9 @@ use Rattle.sap_terms.specs.Piles.{Pile, Takes, nothing, one, used}
 use Rattle.sap_translate.specs.relation.Totals.{total}
 use Rattle.sap_gen.specs.Carried.{counts, count_after, Stays}
 use Rattle.sap_translate.specs.relation.Names.{same_fact}
-use Rattle.sap_gen.proofs.Same.{same_fact-refl, same_fact-sound}
 use Rattle.sap_translate.proofs.Shared.Totals.{total-set, Found, total_found}
 use Rattle.sap_translate.proofs.Shared.Takings.{spent, used_total}
+use Rattle.sap_translate.proofs.Shared.Facts.{same_fact_self, same_fact_true}
 
 -- as it is
 abbrev pub itself : Fact → List Fact
@@ -35,14 +35,14 @@ found_live ys f x = go x.item refl
     go None e = absurd (let h : 0 < count_after itself (same_fact f) None = subst (λ i. 0 < count_after itself (same_fact f) i) e x.counts in omega arith)
     go (Some g) e =
         let h : 0 < count_after itself (same_fact f) (Some g) = subst (λ i. 0 < count_after itself (same_fact f) i) e x.counts in
-        let here : f ≡ g = same_fact-sound f g (cond_pos (same_fact f g) h) in
+        let here : f ≡ g = same_fact_true f g (cond_pos (same_fact f g) h) in
         record { number = x.number; is = x.is ∙ ap (λ i. Some i) (e ∙ ap (λ i. Some i) (sym here)) }
 
 -- what counts itself counts once
 self_count : (after : Fact → List Fact) (f : Fact) → Stays after f → count_after after (same_fact f) (Some f) ≡ 1
 self_count after f s =
     let a : counts (same_fact f) (after f) ≡ counts (same_fact f) (f ∷ []) = ap (counts (same_fact f)) s in
-    let b : counts (same_fact f) (f ∷ []) ≡ 1 = ap (λ (b : Bool). cond b 1 0 + 0) (same_fact-refl f) in
+    let b : counts (same_fact f) (f ∷ []) ≡ 1 = ap (λ (b : Bool). cond b 1 0 + 0) (same_fact_self f) in
     a ∙ b
 
 pub live_too : (after : Fact → List Fact) (xs ys : Pile) (k : ℕ) (f : Fact) → Matches after xs ys → Stays after f → slice_get xs k ≡ Some (Some f) → Live ys f

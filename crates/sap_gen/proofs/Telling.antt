@@ -24,6 +24,7 @@ use Rattle.sap_translate.specs.Sound.{SoundPlaces}
 use Rattle.sap_templates.specs.Templates.{state, own_rules, init_rule, rules_of, nil_rule, out_rule, parallel_rule, rep_start_rule}
 use Rattle.sap_translate.specs.relation.Names.{state_name}
 use Rattle.sap_translate.specs.relation.Totals.{total}
+use Rattle.sap_translate.proofs.Shared.Facts.{names_apart}
 use Rattle.sap_gen.specs.Moves.{AreAsTaken, IsAsTaken, Move}
 use Rattle.sap_gen.specs.Silent.{silent_rule, IsSilentRule}
 use Rattle.sap_gen.specs.code.Takers.{AreTakers, NamesTell, taken_first, is_silent_name, taken_name}
@@ -31,7 +32,6 @@ use Rattle.sap_gen.specs.code.Walks.{IsTakenBy, IsToldRight, Takers, TellRight, 
 use Rattle.sap_gen.proofs.Places.Finding.{OwnMove, moves_of, own_found}
 use Rattle.sap_gen.proofs.Places.Settling.{silent_left}
 use Rattle.sap_gen.proofs.Places.Shortening.{fitting, silent_placed}
-use Rattle.sap_gen.proofs.Places.Standing.{apart}
 
 -- sums
 
@@ -154,7 +154,7 @@ module _ (g : Sig) (p : Proc) (sound : SoundPlaces g p)
     plain_price f h = go (value_at takers f.name) refl where
       go : (o : Option ℕ) → value_at takers f.name ≡ o → cost_at most o f.name ≡ 1
       go None e = refl
-      go (Some k) e = let s = told_name f.name k e in absurd (apart (state_name s.silent.path) f.name (h s.silent.path) s.name)
+      go (Some k) e = let s = told_name f.name k e in absurd (names_apart (state_name s.silent.path) f.name (h s.silent.path) s.name)
 
     -- a child's state fact costs a quarter of its parent's at most
     child_price : (path : List ℕ) (e : ℕ) (w : List Var) → length (state_name path) ≤ most → price (state (path ++ e ∷ []) w) ≤ 4 ^ (most - length (state_name path))

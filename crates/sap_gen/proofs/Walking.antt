@@ -10,6 +10,7 @@ use Rattle.sap_formula.specs.Truth.{EachIn}
 use Rattle.sap_process.specs.Proc.{Proc}
 use Rattle.sap_rule.specs.declared.rule.Rule.{Rule}
 use Rattle.sap_translate.specs.relation.Totals.{total}
+use Rattle.sap_translate.proofs.Shared.Totals.{total-append}
 use Rattle.sap_gen.specs.Settled.{IsSettled, nothing_left, stays, goes_on}
 use Rattle.sap_gen.specs.Silent.{IsSilentRule}
 use Rattle.sap_gen.specs.code.Walks.{IsLookedAt, IsTakenBy, IsToldRight, IsUnderWay, Takers, ahead_of, cost, cost_at, name_bytes}
@@ -21,10 +22,6 @@ next_last fs f = ap reverse (map_push (λ (f : Bor Fact). f.now) fs f) ∙ rever
 each_both : (P : Fact → Type 0) (fs hs : List Fact) → EachIn P fs → EachIn P hs → EachIn P (fs ++ hs)
 each_both P [] hs a b = b
 each_both P (f ∷ fs) hs a b = (a.0, each_both P fs hs a.1 b)
-
-pub total_both : {A : Type 0} (w : A → ℕ) (xs ys : List A) → total w (xs ++ ys) ≡ total w xs + total w ys
-total_both w [] ys = omega arith
-total_both w (x ∷ xs) ys = let e = total_both w xs ys in omega arith
 
 module _ (rules : List Rule) (takers : Takers) (p : Proc) where
   -- where nothing is ahead, all have settled
@@ -77,7 +74,7 @@ module _ (rules : List Rule) (takers : Takers) (p : Proc) where
           let q = at.0 in
           let one : told.rule ≡ q = same_Some told.rule q (sym told.at ∙ at.1) in
           let same : total (cost rules takers) more ≡ total (cost rules takers) (told.rule.right ++ ahead) = ap (total (cost rules takers)) (at.2 ∙ ap (λ (r : Rule). r.right ++ ahead) (sym one)) in
-          let both = total_both (cost rules takers) told.rule.right ahead in
+          let both = total-append (cost rules takers) told.rule.right ahead in
           let less = told.cheaper in
           omega arith
 

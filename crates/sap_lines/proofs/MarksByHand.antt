@@ -2,6 +2,7 @@
 use Rattle.std.proofs.Common.{◌≡◌, ℕ, zero, suc, List, [], ◌∷◌, ◌++◌, Option, Some, refl, sym, ap, subst, ◌∙◌, slice_get, slice_set}
 use Rattle.std.specs.List.{AllZip}
 use Rattle.std.specs.Prelude.{codes}
+use Rattle.std.proofs.lemmas.List.{same_from_push}
 use Rattle.sap_rewrite.specs.Laws.{FormIsOne}
 use Rattle.sap_terms.specs.Equal.{same}
 use Rattle.sap_terms.specs.Equations.{equations}
@@ -35,19 +36,9 @@ module _ (leaves : LeavesAreNormal) (unique : FormIsOne) (g : Sig) where
       (further (line.Lock 0) (locked a ∷ []) [] starts (IsProcessLine.locks 0 refl own_form refl (λ n h. tt)))
       (IsProcessLine.shows 0 refl (record { name = refl; persistent = refl; args = (own_form, tt) }) (λ n h. tt))
 
-  -- the last of a list and what stands before it
   never_empty : {A : Type 0} (xs ys : List A) (y : A) → [] ≡ xs ++ y ∷ ys → ⊥
   never_empty [] ys y e = cc
   never_empty (x ∷ xs) ys y e = cc
-
-  same_ends : {A : Type 0} (xs ys : List A) (x y : A) → xs ++ x ∷ [] ≡ ys ++ y ∷ [] → (xs ≡ ys) × (x ≡ y)
-  same_ends [] [] x y e = (refl, cc)
-  same_ends [] (b ∷ ys) x y e = absurd (never_empty ys [] y (cc))
-  same_ends (b ∷ xs) [] x y e = absurd (never_empty xs [] x (cc))
-  same_ends (b ∷ xs) (d ∷ ys) x y e =
-      let head : b ≡ d = cc in
-      let rest = same_ends xs ys x y (cc) in
-      ((λ i. head i ∷ rest.0 i), rest.1)
 
   -- one thread runs
   alone_is : (t : ℕ) (p q : Proc) → slice_get (Some q ∷ []) t ≡ Some (Some p) → p ≡ q
@@ -97,7 +88,7 @@ module _ (leaves : LeavesAreNormal) (unique : FormIsOne) (g : Sig) where
       → lines ≡ line.Lock 0 ∷ [] → (c.threads ≡ Some then_event ∷ []) × (ms ≡ inside (locked a) ∷ [])
   behind_lock starts e = absurd (cc)
   behind_lock (further {lines = ls} {c = c} {d = d} {es = es} {fs = fs} step inner label run is) e =
-      let ends = same_ends ls [] step (line.Lock 0) e in
+      let ends = same_from_push ls [] step (line.Lock 0) e in
       let begun = at_start run ends.0 in
       let on = lock_is (subst (λ (x : PStep). IsProcessLine g AnySize c es x inner label d fs) ends.1 is) begun.0 in
       (on.2, ap (λ ms. ms ++ marks_of inner label) begun.1 ∙ ap (λ i. marks_of i label) on.0 ∙ ap (λ l. marks_of (locked a ∷ []) l) on.1)
@@ -106,7 +97,7 @@ module _ (leaves : LeavesAreNormal) (unique : FormIsOne) (g : Sig) where
       → lines ≡ lock_event_lines → ms ≡ lock_event_marks
   behind_both starts e = absurd (cc)
   behind_both (further {lines = ls} {c = c} {d = d} {es = es} {fs = fs} step inner label run is) e =
-      let ends = same_ends ls (line.Lock 0 ∷ []) step (line.Event 0) e in
+      let ends = same_from_push ls (line.Lock 0 ∷ []) step (line.Event 0) e in
       let behind = behind_lock run ends.0 in
       let on = event_is (subst (λ (x : PStep). IsProcessLine g AnySize c es x inner label d fs) ends.1 is) behind.0 in
       ap (λ ms. ms ++ marks_of inner label) behind.1 ∙ ap (λ i. (inside (locked a) ∷ []) ++ marks_of i label) on.0

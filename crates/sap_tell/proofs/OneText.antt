@@ -7,6 +7,8 @@ use Rattle.std.specs.Option.{option_map_or}
 use Rattle.std.specs.Str.{bytes_eq}
 use Rattle.std.proofs.lemmas.Slice.Eq.{bytes_eq-Decides}
 use Rattle.std.proofs.lemmas.List.Elements.{All-nil, All-cons, All-head, All-contains}
+use Rattle.std.proofs.lemmas.List.{same_from_push}
+use Rattle.std.proofs.lemmas.Bool.{or_parts}
 use Rattle.sap_lines.specs.Answers.{MatchesExactly, ProcessLinesHaveOneOutcome, RunsMatchExactly}
 use Rattle.sap_lines.specs.Lines as lines
 use Rattle.sap_lines.specs.Lines.{IsProcessLine, left_open}
@@ -63,10 +65,6 @@ known_behind (k ∷ ks) m n = at (bytes_eq k n) (known_behind ks m n) where
   at true rest = refl
   at false rest = rest
 
-neither : (a b : Bool) → (a || b) ≡ false → (a ≡ false) × (b ≡ false)
-neither true b e = cc
-neither false b e = (refl, e)
-
 skipped : (x v : Var) (xs : List Var) → bytes_eq x.name v.name ≡ false → binder_of xs v.name ≡ Some v → binder_of (x ∷ xs) v.name ≡ Some v
 skipped x v xs e h = ap (λ (b : Bool). if b then Some x else binder_of xs v.name) e ∙ h
 
@@ -86,7 +84,7 @@ first_binds known (x ∷ xs) v m = at (is_known known x.name) refl m (λ ks k. f
 
     behind : (is_known (known ++ x.name ∷ []) v.name ≡ false) × (binder_of xs v.name ≡ Some v) → (is_known known v.name ≡ false) × (binder_of (x ∷ xs) v.name ≡ Some v)
     behind r =
-        let both = neither (is_known known v.name) (bytes_eq x.name v.name) (sym (known_behind known x.name v.name) ∙ r.0) in
+        let both = or_parts (is_known known v.name) (bytes_eq x.name v.name) (sym (known_behind known x.name v.name) ∙ r.0) in
         (both.0, skipped x v xs both.1 r.1)
 
     at : (b : Bool) → is_known known x.name ≡ b → Contains (if b then new_vars known xs else x ∷ new_vars (known ++ x.name ∷ []) xs) v
@@ -156,10 +154,6 @@ facts_same (f ∷ fs) (h ∷ hs) e =
 added_same : (pile : Pile) (fs hs : List Fact) → adds pile fs ≡ adds pile hs → fs ≡ hs
 added_same [] fs hs e = facts_same fs hs e
 added_same (x ∷ xs) fs hs e = added_same xs fs hs (cc)
-
-last_same : {A : Type 0} (xs : List A) (x y : A) → xs ++ x ∷ [] ≡ xs ++ y ∷ [] → x ≡ y
-last_same [] x y e = cc
-last_same (z ∷ xs) x y e = last_same xs x y (cc)
 
 same_thread : (c : Config) (t : ℕ) (p q : Proc) → Runs c t p → Runs c t q → p ≡ q
 same_thread c t p q a b = cc
@@ -335,9 +329,9 @@ module _ (laws : Laws) (g : Sig) where
         let var : x ≡ x' = cc in
         same (ap (λ (v : Var). codes "new " ++ variable_text v) var) (ap (λ (v : Var). bound_text (v, fresh n) ∷ []) var)
     one_doing _ _ _ d _ _ _ _ _ _ w e (IsDoing.outputs t n) (IsDoing.outputs t' n') =
-        let term = last_same es n n' e in same (ap (λ (x : Tree). call_text (codes "out") (tree_text x ∷ [])) term) refl
+        let term = (same_from_push es es n n' e).1 in same (ap (λ (x : Tree). call_text (codes "out") (tree_text x ∷ [])) term) refl
     one_doing _ _ _ d _ _ _ _ _ _ w e (IsDoing.outputs_on {x = x} t k u h) (IsDoing.outputs_on {x = x'} t' k' u' h') =
-        let term = last_same es u u' e in
+        let term = (same_from_push es es u u' e).1 in
         let channel = same_entry es k x x' h h' in
         same (λ i. call_text (codes "out") (tree_text (channel i) ∷ tree_text (term i) ∷ [])) refl
     one_doing _ _ _ d _ _ _ _ _ _ w e (IsDoing.inputs {n = n} {x = x} {p = p} t k σ r h f) (IsDoing.inputs {n = n'} {x = x'} {p = p'} t' k' σ' r' h' f') =
@@ -395,23 +389,13 @@ module _ (laws : Laws) (g : Sig) where
     one_doing _ _ _ d _ _ _ _ _ _ w e (IsDoing.names n) (IsDoing.names n') = same refl refl
     one_doing _ _ _ d _ _ _ _ _ _ w e (IsDoing.writes a) (IsDoing.writes a') = same refl refl
     one_doing _ _ _ d _ _ _ _ _ _ w e (IsDoing.applies f ks x) (IsDoing.applies f' ks' x') =
-        let term = last_same es x x' e in same (ap (λ (y : Tree). call_text f (map decimal ks) ++ (codes " = " ++ tree_text y)) term) refl
+        let term = (same_from_push es es x x' e).1 in same (ap (λ (y : Tree). call_text f (map decimal ks) ++ (codes " = " ++ tree_text y)) term) refl
     one_doing _ _ _ d _ _ _ _ _ _ w e (IsDoing.knows k x h) (IsDoing.knows k' x' h') =
         let entry = same_entry es k x x' h h' in same (ap tree_text entry) refl
 
 never_empty : {A : Type 0} (xs : List A) (y : A) → [] ≡ xs ++ y ∷ [] → ⊥
 never_empty [] y e = cc
 never_empty (x ∷ xs) y e = cc
-
--- the last of a list and what stands before it
-same_ends : {A : Type 0} (xs ys : List A) (x y : A) → xs ++ x ∷ [] ≡ ys ++ y ∷ [] → (xs ≡ ys) × (x ≡ y)
-same_ends [] [] x y e = (refl, cc)
-same_ends [] (b ∷ ys) x y e = absurd (never_empty ys y (cc))
-same_ends (a ∷ xs) [] x y e = absurd (never_empty xs x (cc))
-same_ends (a ∷ xs) (b ∷ ys) x y e =
-    let head : a ≡ b = cc in
-    let rest = same_ends xs ys x y (cc) in
-    ((λ i. head i ∷ rest.0 i), rest.1)
 
 -- what two told runs lead to, and their texts, are the same
 record AreOneRun (c d : Config) (es fs : List Tree) (text other : List ℕ) : Type 0 where
@@ -429,7 +413,7 @@ module _ (laws : Laws) (g : Sig) (p : Proc) (hold : HoldsBuiltins g) (ready : Is
   one_run told.starts (told.further {lines = ks} step inner label t h l x) e = absurd (never_empty ks step e)
   one_run (told.further {lines = ls} step inner label t h l x) told.starts e = absurd (never_empty ls step (sym e))
   one_run (told.further {lines = ls} {c = c} {d = c_next} {es = es} {fs = fs} {text = text} step inner label t h l x) (told.further {lines = ks} {c = c'} {d = d'} {es = es'} {fs = fs'} {text = text'} step' inner' label' t' h' l' x') e =
-      let ends = same_ends ls ks step step' e in
+      let ends = same_from_push ls ks step step' e in
       let before = one_run h h' ends.0 in
       let possible : IsProcessLine g HasFewNodes c es step inner' label' d' fs' =
       subst (λ (s : PStep). IsProcessLine g HasFewNodes c es s inner' label' d' fs') (sym ends.1)

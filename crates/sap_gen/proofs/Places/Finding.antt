@@ -5,6 +5,7 @@ use Rattle.std.specs.Str.{bytes_eq}
 use Rattle.sap_terms.specs.Signature.{Sig}
 use Rattle.sap_terms.specs.declared.fact.Fact.{Fact}
 use Rattle.sap_terms.specs.declared.var.Var.{Var}
+use Rattle.sap_terms.proofs.PlainLaws.Known.{one_name}
 use Rattle.sap_process.specs.Places.{place}
 use Rattle.sap_process.specs.Proc.{Proc}
 use Rattle.sap_rule.specs.declared.rule.Rule.{Rule}
@@ -16,7 +17,7 @@ use Rattle.sap_gen.specs.Moves.{Move, Moves, IsAsTaken}
 use Rattle.sap_gen.specs.Silent.{silent_rule, IsSilentRule}
 use Rattle.sap_gen.specs.code.SettledPlaces.{path_of, settled, settled_at, settled_by, settled_if, settled_named}
 use Rattle.sap_gen.proofs.Places.Settling.{silent_left, silent_acts, right_settles, settled_within}
-use Rattle.sap_gen.proofs.Places.Standing.{name_same, path_told, same_name}
+use Rattle.sap_gen.proofs.Places.Standing.{path_told, same_name}
 
 module _ (g : Sig) (p : Proc) (sound : SoundPlaces g p) where
   abbrev Q : Rule → Type 0
@@ -39,7 +40,7 @@ module _ (g : Sig) (p : Proc) (sound : SoundPlaces g p) where
 
   -- the place stands at the path that its name tells
   pub told : (n path : List ℕ) (v : List Var) (b : Proc) → bytes_eq (state_name path) n ≡ true → scoped_place_at (root p) (path_of n) ≡ Some (place path v b) → scoped_place_at (root p) path ≡ Some (place path v b)
-  told n path v b t e = subst (λ z. scoped_place_at (root p) z ≡ Some (place path v b)) (ap path_of (sym (name_same (state_name path) n t)) ∙ path_told path) e
+  told n path v b t e = subst (λ z. scoped_place_at (root p) z ≡ Some (place path v b)) (ap path_of (sym (one_name (state_name path) n t)) ∙ path_told path) e
 
   -- that of the place that was found, if its state fact has this name
   abbrev move_if : (n path : List ℕ) (v : List Var) (b : Proc) (y : Bool) → bytes_eq (state_name path) n ≡ y → scoped_place_at (root p) (path_of n) ≡ Some (place path v b) → Option (Move Q)
@@ -64,7 +65,7 @@ module _ (g : Sig) (p : Proc) (sound : SoundPlaces g p) where
   if_named : (n path : List ℕ) (v : List Var) (b : Proc) (y : Bool) (t : bytes_eq (state_name path) n ≡ y) (e : scoped_place_at (root p) (path_of n) ≡ Some (place path v b)) (m : Move Q)
       → move_if n path v b y t e ≡ Some m → Q m.rule × (m.shape.state.name ≡ n)
   if_named n path v b false t e m h = cc
-  if_named n path v b true t e m h = by_named n path v b (silent_rule path v b) (told n path v b t e) refl m (name_same (state_name path) n t) h
+  if_named n path v b true t e m h = by_named n path v b (silent_rule path v b) (told n path v b t e) refl m (one_name (state_name path) n t) h
 
   at_named : (n : List ℕ) (o : Option ScopedPlace) (e : scoped_place_at (root p) (path_of n) ≡ o) (m : Move Q) → move_at n o e ≡ Some m → Q m.rule × (m.shape.state.name ≡ n)
   at_named n None e m h = cc

@@ -11,6 +11,7 @@ use Rattle.sap_terms.specs.Tree.{variable}
 use Rattle.sap_terms.specs.Variables.{facts_vars, tree_vars}
 use Rattle.sap_terms.specs.declared.fact.Fact.{Fact}
 use Rattle.sap_terms.specs.declared.var.Var.{Var}
+use Rattle.sap_terms.proofs.PlainLaws.Known.{one_name}
 use Rattle.sap_process.specs.Action as action
 use Rattle.sap_process.specs.Places.{place}
 use Rattle.sap_process.specs.Scopes.{lock_var, with_new}
@@ -29,7 +30,7 @@ use Rattle.sap_translate.specs.relation.Names.{state_name}
 use Rattle.sap_gen.specs.Moves.{IsPlain, ArePlain, IsAsTaken, AreAsTaken}
 use Rattle.sap_gen.specs.Silent.{IsSilentRule}
 use Rattle.sap_gen.proofs.Places.Finding.{moves_of, none_found, other_name, state_right}
-use Rattle.sap_gen.proofs.Places.Standing.{child_stands, name_same}
+use Rattle.sap_gen.proofs.Places.Standing.{child_stands}
 
 -- no state fact has a name that isn't reserved
 unreserved_name : (n : List ℕ) → is_reserved n ≡ false → (path : List ℕ) → bytes_eq (state_name path) n ≡ false
@@ -37,7 +38,7 @@ unreserved_name n u path = go (bytes_eq (state_name path) n) refl where
   go : (b : Bool) → bytes_eq (state_name path) n ≡ b → b ≡ false
   go false e = refl
   go true e =
-      let same : state_name path ≡ n = name_same (state_name path) n e in
+      let same : state_name path ≡ n = one_name (state_name path) n e in
       let reserved : is_reserved (state_name path) ≡ true = refl in
       let clash : true ≡ false = sym reserved ∙ ap is_reserved same ∙ u in
       cc

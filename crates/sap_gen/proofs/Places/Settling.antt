@@ -18,10 +18,12 @@ use Rattle.sap_translate.specs.Scoped.{AllWithin, FactsWithin}
 use Rattle.sap_translate.specs.Sound.{SoundPlaces}
 use Rattle.sap_templates.specs.Templates.{first_of, second_of, state, nil_rule, out_rule, parallel_rule, rep_start_rule}
 use Rattle.sap_translate.specs.relation.Names.{state_name}
+use Rattle.sap_translate.proofs.Shared.Names.{state_name_same}
+use Rattle.sap_translate.proofs.Shared.Facts.{names_apart}
 use Rattle.sap_gen.specs.Settled.{IsSettled, nothing_left, stays, goes_on}
 use Rattle.sap_gen.specs.Silent.{silent_rule, IsSilentRule}
 use Rattle.sap_gen.specs.code.SettledPlaces.{settled}
-use Rattle.sap_gen.proofs.Places.Standing.{apart, child_stands, one_name}
+use Rattle.sap_gen.proofs.Places.Standing.{child_stands}
 
 -- a silent rule takes the state fact of its place, and shows nothing
 pub silent_left : (path : List ℕ) (v : List Var) (b : Proc) (q : Rule) → silent_rule path v b ≡ Some q → q.left ≡ state path v ∷ []
@@ -65,7 +67,7 @@ module _ (p : Proc) where
     taken q x e =
         let lists : (state x.path x.scope ∷ []) ≡ (f ∷ []) = sym (silent_left x.path x.scope x.body q x.is) ∙ e in
         let one : state x.path x.scope ≡ f = cc in
-        apart (state_name x.path) f.name (n x.path) (ap (λ (h : Fact). h.name) one)
+        names_apart (state_name x.path) f.name (n x.path) (ap (λ (h : Fact). h.name) one)
 
   -- no silent rule takes the state fact of a place that isn't silent
   pub untaken : (path : List ℕ) (v : List Var) (b : Proc) → scoped_place_at (root p) path ≡ Some (place path v b) → silent_rule path v b ≡ None
@@ -73,7 +75,7 @@ module _ (p : Proc) where
   untaken path v b at none q x e =
       let lists : (state x.path x.scope ∷ []) ≡ (state path v ∷ []) = sym (silent_left x.path x.scope x.body q x.is) ∙ e in
       let one : state x.path x.scope ≡ state path v = cc in
-      let paths : x.path ≡ path = one_name x.path path (ap (λ (h : Fact). h.name) one) in
+      let paths : x.path ≡ path = state_name_same x.path path (ap (λ (h : Fact). h.name) one) in
       let places : Some (place x.path x.scope x.body) ≡ Some (place path v b) = sym x.stands ∙ ap (λ z. scoped_place_at (root p) z) paths ∙ at in
       let same : place x.path x.scope x.body ≡ place path v b = same_Some (place x.path x.scope x.body) (place path v b) places in
       let rules : silent_rule x.path x.scope x.body ≡ silent_rule path v b = ap (λ (a : ScopedPlace). silent_rule a.path a.above a.body) same in

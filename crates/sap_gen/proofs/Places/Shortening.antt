@@ -16,6 +16,7 @@ use Rattle.sap_templates.specs.Places.{ScopedPlace, root, scoped_place_at}
 use Rattle.sap_translate.specs.Sound.{SoundPlaces}
 use Rattle.sap_templates.specs.Templates.{state, own_rules, init_rule, rules_of, nil_rule, out_rule, parallel_rule, rep_start_rule, rep_copy_rule}
 use Rattle.sap_translate.specs.relation.Names.{state_name}
+use Rattle.sap_translate.proofs.Shared.Names.{state_name_same}
 use Rattle.sap_gen.specs.Moves.{IsPlain, ArePlain, IsAsTaken, AreAsTaken, IsShortened, IsShortening}
 use Rattle.sap_gen.specs.Settled.{IsSettled, nothing_left, stays, goes_on}
 use Rattle.sap_gen.specs.Short.{AreShort, no_rules, drops, keeps}
@@ -25,7 +26,6 @@ use Rattle.sap_gen.proofs.OneOutcome.{one_outcome}
 use Rattle.sap_gen.proofs.Places.Finding.{moves_of, moves_named, other_name, own_found, walk_none, walk_some}
 use Rattle.sap_gen.proofs.Places.Fitting.{IsFitting, init_fitting, place_fitting}
 use Rattle.sap_gen.proofs.Places.Settling.{settled_join, silent_left}
-use Rattle.sap_gen.proofs.Places.Standing.{one_name}
 
 no_item : {X : Type 0} (x : X) → Contains [] x → ⊥
 no_item x c = absurd (omega (arith, c.1))
@@ -46,7 +46,7 @@ one_silent : (p : Proc) (q r : Rule) (f : Fact) → IsSilentRule p q → IsSilen
 one_silent p q r f x y a b =
     let lists : (state x.path x.scope ∷ []) ≡ (state y.path y.scope ∷ []) = sym (silent_left x.path x.scope x.body q x.is) ∙ a ∙ sym b ∙ silent_left y.path y.scope y.body r y.is in
     let one : state x.path x.scope ≡ state y.path y.scope = cc in
-    let paths : x.path ≡ y.path = one_name x.path y.path (ap (λ (h : Fact). h.name) one) in
+    let paths : x.path ≡ y.path = state_name_same x.path y.path (ap (λ (h : Fact). h.name) one) in
     let places : Some (place x.path x.scope x.body) ≡ Some (place y.path y.scope y.body) = sym x.stands ∙ ap (λ z. scoped_place_at (root p) z) paths ∙ y.stands in
     let same : place x.path x.scope x.body ≡ place y.path y.scope y.body = same_Some (place x.path x.scope x.body) (place y.path y.scope y.body) places in
     let rules : silent_rule x.path x.scope x.body ≡ silent_rule y.path y.scope y.body = ap (λ (a : ScopedPlace). silent_rule a.path a.above a.body) same in

@@ -1,5 +1,5 @@
 -- Where places stand, and what state facts are called.
-use Rattle.std.proofs.Common.{◌≡◌, ℕ, ◌+◌, ◌-◌, List, [], ◌∷◌, ◌++◌, Option, Some, None, true, false, refl, sym, ap, ◌∙◌, arith}
+use Rattle.std.proofs.Common.{◌≡◌, ℕ, ◌+◌, ◌-◌, List, [], ◌∷◌, ◌++◌, Option, Some, None, true, refl, ap, ◌∙◌, arith}
 use Rattle.std.proofs.lemmas.Option.{same_Some}
 use Rattle.std.proofs.lemmas.Slice.Eq.{bytes_eq-Decides}
 use Rattle.std.specs.Str.{bytes_eq}
@@ -33,16 +33,5 @@ undo_digits (d ∷ path) = let one : 48 + d - 48 ≡ d = omega arith in λ i. on
 pub path_told : (path : List ℕ) → path_of (state_name path) ≡ path
 path_told path = undo_digits path
 
--- no two places have one
-pub one_name : (p q : List ℕ) → state_name p ≡ state_name q → p ≡ q
-one_name p q e = sym (path_told p) ∙ ap path_of e ∙ path_told q
-
 pub same_name : (n m : List ℕ) → n ≡ m → bytes_eq n m ≡ true
 same_name n m e = (bytes_eq-Decides n m).1 e
-
-pub name_same : (n m : List ℕ) → bytes_eq n m ≡ true → n ≡ m
-name_same n m e = (bytes_eq-Decides n m).0 e
-
--- names that the test tells apart differ
-pub apart : (n m : List ℕ) → bytes_eq n m ≡ false → n ≡ m → ⊥
-apart n m f e = let t = same_name n m e in cc
