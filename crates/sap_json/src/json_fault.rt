@@ -4,7 +4,7 @@ ghost use Rattle.std.specs.Prelude.{◌≡◌};
 use sap_terms::Mem;
 
 /// Why bytes of JSON are no run. Steps are counted from 1.
-#[derive(Clone, Copy, Debug, PartialEq, Eq)]
+#[derive(Clone, Copy)]
 pub enum JsonFault {
     /// Want of memory.
     Mem,

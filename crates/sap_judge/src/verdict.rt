@@ -15,7 +15,7 @@ use std::alloc::Global;
 pub const MOST_COST: u64 = 10_000_000;
 
 /// What the judge says of a formula on a trace.
-#[derive(Clone, Copy, Debug, PartialEq, Eq)]
+#[derive(Clone, Copy)]
 pub enum Verdict {
     Holds,
     Fails,

@@ -1,7 +1,7 @@
 //! Why the bytes of a run are none.
 
 /// Why the bytes of a run are none. Want of memory is no such cause.
-#[derive(Clone, Copy, Debug, PartialEq, Eq)]
+#[derive(Clone, Copy)]
 pub enum RunRefusal {
     /// They are more than a run may have.
     TooLong,

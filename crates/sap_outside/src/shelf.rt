@@ -11,7 +11,7 @@ use sap_terms::Mem as OutOfMemory;
 use std::alloc::{AllocError, AllocFailed, Global};
 
 /// Why a shelf gave no bytes.
-#[derive(Clone, Copy, Debug, PartialEq, Eq)]
+#[derive(Clone, Copy)]
 pub enum ShelfFault {
     /// Want of memory.
     Mem,

@@ -8,7 +8,7 @@ ghost use Rattle.sap_outside.specs.Seen.{SeenSink};
 use std::alloc::AllocError;
 
 /// Why a put didn't take all its bytes.
-#[derive(Clone, Copy, Debug, PartialEq, Eq)]
+#[derive(Clone, Copy)]
 pub enum SinkFault {
     /// Want of memory.
     Mem,

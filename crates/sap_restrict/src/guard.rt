@@ -16,7 +16,7 @@ use sap_terms::{Copied, Fact, FactList, Mem, Term};
 use std::alloc::Global;
 
 /// What the guard says of a time.
-#[derive(Clone, Copy, Debug, PartialEq, Eq)]
+#[derive(Clone, Copy)]
 pub enum Admit {
     /// All restrictions stay true, and the time was taken up.
     Kept,

@@ -3,7 +3,7 @@ use sap_terms::{Copied, Items, Mem};
 use std::alloc::Global;
 
 /// One of the seven restrictions.
-#[derive(Clone, Copy, Debug, PartialEq, Eq)]
+#[derive(Clone, Copy)]
 pub enum Which {
     /// There is one start.
     Init,

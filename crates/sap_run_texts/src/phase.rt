@@ -2,7 +2,7 @@
 use crate::RunFault;
 
 /// How far a reader has come.
-#[derive(Clone, Copy, Debug, PartialEq, Eq)]
+#[derive(Clone, Copy)]
 pub enum Phase {
     /// Memory was wanting.
     Failed,

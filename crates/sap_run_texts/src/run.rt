@@ -2,7 +2,7 @@
 use sap_runs::{PSteps, RSteps};
 
 /// Which runs are asked for.
-#[derive(Clone, Copy, Debug, PartialEq, Eq)]
+#[derive(Clone, Copy)]
 pub enum Kinds {
     /// Runs of processes.
     Process,

@@ -4,7 +4,7 @@ ghost use Rattle.std.specs.Prelude.{◌≡◌};
 use sap_terms::Mem;
 
 /// Why a text is no run. Lines are counted from 1, the head's being the first.
-#[derive(Clone, Copy, Debug, PartialEq, Eq)]
+#[derive(Clone, Copy)]
 pub enum RunFault {
     /// Want of memory.
     Mem,
