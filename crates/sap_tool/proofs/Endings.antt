@@ -55,6 +55,7 @@ run_next c k bytes fetched accepted = at (file_of k) fetched where
 -- what a file alone ends with is what the call ends with
 pub of_file : (c : Call) (k : Command) (bytes : List ℕ) (e : Ending) → Asks c k → IsFileFetched c k bytes → AskedFor c (for_file k) → EndsFile k bytes e → Ends c e
 of_file c k bytes (ending.Given text) asks fetched once t = to_input k (alone bytes) asks (fetched, once) (allowed t)
+of_file c k bytes (ending.Help text) asks fetched once t = absurd t
 of_file c k bytes ending.Usage asks fetched once t = absurd t
 of_file c k bytes ending.Unread asks fetched once t = absurd t
 of_file c k bytes (ending.File line) asks fetched once t = to_input k (alone bytes) asks (fetched, once) t
@@ -125,6 +126,7 @@ module _ (joining : Joining) (c : Call) (k : Command) (bytes : List ℕ) (run : 
 
   pub of_both : (e : Ending) → EndsBoth k bytes (reading run mid c.after) e → Ends c e
   of_both (ending.Given text) t = to_input k (and_run bytes t.0) asks (fetched, read_of t.0 t.1) (allowed t.2)
+  of_both (ending.Help text) t = absurd t
   of_both ending.Usage t = absurd t
   of_both ending.Unread t =
       let rose : FailedOn c run = rose_before (c.before.faults run) (mid.faults run) (c.after.faults run) before t.1 in

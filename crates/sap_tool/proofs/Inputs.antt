@@ -27,6 +27,7 @@ use Rattle.sap_replay.specs.Tasks.{kinds_of}
 use Rattle.sap_replay.specs.declared.task.Task.{Task}
 use Rattle.sap_replay.specs.ShortRuns.{IsShortRefusedWith}
 use Rattle.sap_replay.specs.RunRefusals.{IsIllegal, IsIllegalOfTheory, IsNeverIllegal, IsRunRefusedWith}
+use Rattle.sap_tool.proofs.AtOnce.{OnePage}
 use Rattle.sap_tool.proofs.Sound.{IsShown, IsSound, on_alone, on_both, on_run, alone_two, both_two, run_two, alone_whole, both_whole, run_whole, alone_as_read, both_as_read, run_as_read, alone_as_held, both_as_held, run_as_held}
 use Rattle.sap_tool.specs.Meaning.{IsWritten}
 use Rattle.sap_tool.proofs.ShortRefused.{filled_is_legal, short_read_up_refused, short_refused_by_read_up}
@@ -56,6 +57,7 @@ pub record Laws : Type 0 where
   pub one_cause : RefusedRunsHaveOneCause
   pub unrefused : LegalRunsAreNotRefused
   pub filled : FilledRunsAreLegal HasFewNodes
+  pub one_page : OnePage
 
 -- what is so of what is fetched first: a file, a theory, or what is neither
 of_files : Laws → IsShown most_bytes IsRefusedWith AcceptsFile

@@ -1,5 +1,5 @@
 -- However a call ends, the promises are kept.
-use Rattle.std.proofs.Common.{◌≡◌, ◌+◌, ◌<◌, ℕ, List, [], ◌∷◌, take, Option, Some, None, refl, sym, ap, subst, ◌∙◌, inl, inr, ◌⊎◌, arith, lit<}
+use Rattle.std.proofs.Common.{◌≡◌, ◌+◌, ◌<◌, ℕ, List, [], ◌∷◌, take, Option, Some, None, refl, sym, subst, ◌∙◌, inl, inr, ◌⊎◌, arith, lit<}
 use Rattle.std.specs.Prelude.{Contains, IsSomeAnd, IfSome}
 use Rattle.sap_outside.specs.Outside.{IsFetched}
 use Rattle.sap_outside.specs.Pieces.{pieces}
@@ -7,16 +7,16 @@ use Rattle.sap_outside.specs.RunPieces.{most_run_bytes, IsReadUp}
 use Rattle.sap_outside.specs.Stream.{Gained, Failed, CutShort}
 use Rattle.sap_refusals.specs.Refusals.{refused_line}
 use Rattle.sap_refusals.specs.RunFaultTexts.{run_refused_line}
-use Rattle.sap_replay.specs.Sample.{IsSample, sample_text}
+use Rattle.sap_tool.specs.ToldAtOnce.{IsToldAtOnce}
 use Rattle.sap_tool.specs.Call.{Call, FailedOn, Holds}
 use Rattle.sap_replay.specs.declared.way.Way.{Way}
 use Rattle.sap_tool.specs.Commands.{Command, compile, Input, alone, and_run, run_alone, file_of, run_of, HowRead, in_pieces, at_once, how_read, limit_of, IsUnknown, behaviour_of, Accepts, Refuses, RefusesRun, TakesRun, Allows}
-use Rattle.sap_tool.specs.Answers.{Answer, gives, tells, status_of, IsAnswerTo, allowed, refused, run_refused, Asks, for_file, IsFileFetched, WasReadSo, WasRunRead, Fetched, IsRunNext, FailedOnFile, FailedOnRun, IsAnswer, IsBegun, to_input, sampled, usage, unread, unread_run, read_fault_text, IsPut, whole, broken, wanting, IsLast, complete, cut, write_fault_text, memory_text, Ended, answered, unanswered}
+use Rattle.sap_tool.specs.Answers.{Answer, gives, tells, status_of, IsAnswerTo, allowed, refused, run_refused, Asks, for_file, IsFileFetched, WasReadSo, WasRunRead, Fetched, IsRunNext, FailedOnFile, FailedOnRun, IsAnswer, IsBegun, to_input, told_at_once, usage, unread, unread_run, read_fault_text, IsPut, whole, broken, wanting, IsLast, complete, cut, write_fault_text, memory_text, Ended, answered, unanswered}
 use Rattle.sap_tool.specs.Promises as promised
-use Rattle.sap_tool.proofs.Asked.{one_command, no_command_is_sample}
+use Rattle.sap_tool.proofs.Asked.{one_command, no_command_is_told}
 use Rattle.sap_tool.proofs.Inputs.{Laws, is_sound, never_run, one_allowed, fetched_part, part_allows}
 use Rattle.sap_tool.proofs.Parts.{fetched_is_up, joined_part}
-use Rattle.sap_tool.proofs.SampleWords.{one_sample}
+use Rattle.sap_tool.proofs.AtOnce.{one_told}
 use Rattle.sap_tool.proofs.Some.{of_both_some, none_has}
 use Rattle.sap_tool.proofs.Sound.{IsWhole, IsPartOf}
 
@@ -35,7 +35,7 @@ answers_asked : (c : Call) (k : Command) → Asks c k → (a : Answer) → IsAns
 answers_asked c k asked a (to_input l read asks fetched is) =
     let both = subst (λ (m : Command). Fetched c m read × IsAnswerTo m read a) (one_command c.words l k asks asked) (fetched, is) in
     of_input read both.0 both.1
-answers_asked c k asked _ (sampled n asks none) = absurd (no_command_is_sample c.words k n asked asks)
+answers_asked c k asked _ (told_at_once text asks none) = absurd (no_command_is_told c.words k text asked asks)
 answers_asked c k asked _ (usage u none) = absurd (u.no_command k asked)
 answers_asked c k asked _ (unread l asks f n) = of_file_fault (subst (λ (m : Command). FailedOnFile c m) (one_command c.words l k asks asked) f)
 answers_asked c k asked _ (unread_run l asks next f n) =
@@ -49,7 +49,7 @@ module _ (laws : Laws) (c : Call) where
     at (to_input k input asks fetched (allowed t)) e = (0, lit< tt, sym e)
     at (to_input k input asks fetched (refused why r)) e = (1, lit< tt, sym e)
     at (to_input k input asks fetched (run_refused why r)) e = (2, lit< tt, sym e)
-    at (sampled n asks none) e = (0, lit< tt, sym e)
+    at (told_at_once text asks none) e = (0, lit< tt, sym e)
     at (usage u n) e = (3, lit< tt, sym e)
     at (unread k asks f n) e = (4, lit< tt, sym e)
     at (unread_run k asks next f n) e = (4, lit< tt, sym e)
@@ -57,7 +57,7 @@ module _ (laws : Laws) (c : Call) where
   statuses s (answered a is (wanting taken last e b p l)) = (6, lit< tt, sym e)
   statuses s (unanswered begun last e none word l) = (6, lit< tt, sym e)
 
-  given : (s : ℕ) → Ended (IsAnswer c) (IsBegun c) c.out c.err s → s ≡ 0 → promised.Given c ⊎ promised.GivenSample c
+  given : (s : ℕ) → Ended (IsAnswer c) (IsBegun c) c.out c.err s → s ≡ 0 → promised.Given c ⊎ promised.GivenAtOnce c
   given s (answered (tells n text) is (whole e w)) z = absurd (at is (sym e ∙ z)) where
     at : {m : ℕ} {t : List ℕ} → IsAnswer c (tells m t) → m ≡ 0 → ⊥
     at (to_input k input asks fetched (refused why r)) e = omega (arith, e)
@@ -76,7 +76,7 @@ module _ (laws : Laws) (c : Call) where
     out = w.0;
     err = w.1;
   })
-  given s (answered _ (sampled n asks none) (whole e w)) z = inr (record { sessions = n; asked = asks; fetched = none; out = w.0; err = w.1 })
+  given s (answered _ (told_at_once text asks none) (whole e w)) z = inr (record { text = text; asked = asks; fetched = none; out = w.0; err = w.1 })
   given s (answered a is (broken taken last e b p l)) z = absurd (omega arith)
   given s (answered a is (wanting taken last e b p l)) z = absurd (omega arith)
   given s (unanswered begun last e none word l) z = absurd (omega arith)
@@ -94,7 +94,7 @@ module _ (laws : Laws) (c : Call) where
   below_five (to_input k input asks fetched (allowed t)) = lit< tt
   below_five (to_input k input asks fetched (refused why r)) = lit< tt
   below_five (to_input k input asks fetched (run_refused why r)) = lit< tt
-  below_five (sampled n asks none) = lit< tt
+  below_five (told_at_once text asks none) = lit< tt
   below_five (usage u n) = lit< tt
   below_five (unread k asks f n) = lit< tt
   below_five (unread_run k asks next f n) = lit< tt
@@ -133,7 +133,7 @@ module _ (laws : Laws) (c : Call) where
 
   must_tell_usage : (s : ℕ) → Ended (IsAnswer c) (IsBegun c) c.out c.err s → IsUnknown c.words → (s ≡ 3) ⊎ ((s ≡ 5) × Failed c.err) ⊎ (s ≡ 6)
   must_tell_usage s (answered a (to_input k input asks fetched is) put) unknown = absurd (unknown.no_command k asks)
-  must_tell_usage s (answered _ (sampled n asks none) put) unknown = absurd (unknown.no_sample n asks)
+  must_tell_usage s (answered _ (told_at_once text asks none) put) unknown = absurd (unknown.no_text text asks)
   must_tell_usage s (answered _ (usage u n) put) unknown = elim (told_ends s 3 _ put) [ inl h ↦ inl h.0 | inr h ↦ inr h ]
   must_tell_usage s (answered _ (unread k asks f n) put) unknown = absurd (unknown.no_command k asks)
   must_tell_usage s (answered _ (unread_run k asks next f n) put) unknown = absurd (unknown.no_command k asks)
@@ -150,7 +150,7 @@ module _ (laws : Laws) (c : Call) where
   -- words that ask for nothing are given none
   unknown_gives : IsUnknown c.words → (text : List ℕ) → IsAnswer c (gives text) → ⊥
   unknown_gives unknown text (to_input k input asks fetched t) = unknown.no_command k asks
-  unknown_gives unknown _ (sampled n asks none) = unknown.no_sample n asks
+  unknown_gives unknown _ (told_at_once text asks none) = unknown.no_text text asks
 
   -- Of a call whose words ask for this command.
   module _ (k : Command) (asked : Asks c k) where
@@ -319,15 +319,15 @@ module _ (laws : Laws) (c : Call) where
   given_text s text other same open_out (broken taken last e b p l) = absurd (open_out b)
   given_text s text other same open_out (wanting taken last e b p l) = inr e
 
-  module _ (n : ℕ) (asked : IsSample c.words n) where
-    must_tell_sample : (s : ℕ) → Ended (IsAnswer c) (IsBegun c) c.out c.err s → (Failed c.out → ⊥) → ((s ≡ 0) × Gained c.out (pieces (sample_text n)) (sample_text n)) ⊎ (s ≡ 6)
-    must_tell_sample s (answered _ (to_input k input asks fetched is) put) open_out = absurd (no_command_is_sample c.words k n asks asked)
-    must_tell_sample s (answered _ (sampled m asks none) put) open_out =
-        given_text s (sample_text n) (sample_text m) (ap sample_text (one_sample c.words m n asks asked)) open_out put
-    must_tell_sample s (answered _ (usage u none) put) open_out = absurd (u.no_sample n asked)
-    must_tell_sample s (answered _ (unread k asks f none) put) open_out = absurd (no_command_is_sample c.words k n asks asked)
-    must_tell_sample s (answered _ (unread_run k asks next f none) put) open_out = absurd (no_command_is_sample c.words k n asks asked)
-    must_tell_sample s (unanswered begun last e none word l) open_out = inr e
+  module _ (text : List ℕ) (asked : IsToldAtOnce c.words text) where
+    must_tell : (s : ℕ) → Ended (IsAnswer c) (IsBegun c) c.out c.err s → (Failed c.out → ⊥) → ((s ≡ 0) × Gained c.out (pieces text) text) ⊎ (s ≡ 6)
+    must_tell s (answered _ (to_input k input asks fetched is) put) open_out = absurd (no_command_is_told c.words k text asks asked)
+    must_tell s (answered _ (told_at_once other asks none) put) open_out =
+        given_text s text other (one_told laws.one_page c.words other text asks asked) open_out put
+    must_tell s (answered _ (usage u none) put) open_out = absurd (u.no_text text asked)
+    must_tell s (answered _ (unread k asks f none) put) open_out = absurd (no_command_is_told c.words k text asks asked)
+    must_tell s (answered _ (unread_run k asks next f none) put) open_out = absurd (no_command_is_told c.words k text asks asked)
+    must_tell s (unanswered begun last e none word l) open_out = inr e
 
   module _ (way : Way) (file bytes : List ℕ) (asked : Asks c (compile way file)) (held : Holds c.before.holds file bytes) where
     abbrev k : Command
@@ -373,6 +373,6 @@ kept laws c s o = record {
   must_answer = λ k input asked held unrefused sound open_out. must_answer laws c k asked input held unrefused sound open_out s o;
   must_take = λ k input asked held takes sound open_out. must_take laws c k asked input held takes sound open_out s o;
   must_give = λ way file bytes text asked held t sound open_out. must_give laws c way file bytes asked held s o text t sound open_out;
-  must_tell_sample = λ n asked open_out. must_tell_sample laws c n asked s o open_out;
+  must_tell = λ text asked open_out. must_tell laws c text asked s o open_out;
   nothing_out = nothing_out laws c s o;
 }

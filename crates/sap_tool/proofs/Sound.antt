@@ -1,5 +1,5 @@
 -- What is so of every command, as one record of each: what the promises rest on.
-use Rattle.std.proofs.Common.{◌≡◌, ◌+◌, ℕ, List, take, None, refl, sym, subst}
+use Rattle.std.proofs.Common.{◌≡◌, ◌+◌, ℕ, List, take, None, sym, subst}
 use Rattle.sap_outside.specs.RunPieces.{IsReadUp}
 use Rattle.sap_tool.specs.Commands.{Behaviour, Input, alone, and_run, run_alone, IsAlone, IsWithRun, IsRunAlone}
 

@@ -9,7 +9,7 @@ use Rattle.sap_outside.specs.Pieces.{pieces, GainedPart}
 use Rattle.sap_refusals.specs.Refusals.{refused_line}
 use Rattle.sap_outside.specs.RunPieces.{most_run_bytes, WasRead, WasGivenUp}
 use Rattle.sap_refusals.specs.RunFaultTexts.{run_refused_line}
-use Rattle.sap_replay.specs.Sample.{IsSample, sample_text}
+use Rattle.sap_tool.specs.ToldAtOnce.{IsToldAtOnce}
 
 -- a text for out, which is status 0, or a status and a text for err
 pub data Answer : Type 0 where
@@ -117,8 +117,8 @@ memory_text = codes "out of memory\n"
 pub data IsAnswer (c : Call) : Answer → Type 0 where
   to_input : {a : Answer} (k : Command) (input : Input) → Asks c k → Fetched c k input
       → IsAnswerTo k input a → IsAnswer c a
-  sampled : (n : ℕ) → IsSample c.words n → c.after.asked ≡ c.before.asked
-      → IsAnswer c (gives (sample_text n))
+  told_at_once : (text : List ℕ) → IsToldAtOnce c.words text → c.after.asked ≡ c.before.asked
+      → IsAnswer c (gives text)
   usage : IsUnknown c.words → c.after.asked ≡ c.before.asked → IsAnswer c (tells 3 usage_text)
   unread : (k : Command) → Asks c k → FailedOnFile c k → AskedFor c (for_file k)
       → IsAnswer c (tells 4 read_fault_text)

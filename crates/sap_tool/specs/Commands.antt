@@ -18,9 +18,9 @@ use Rattle.sap_tool.specs.WhyTexts.{IsWhyText, IsToldWhy}
 use Rattle.sap_tool.specs.AcceptedRuns.{IsReplayed, IsChecked, IsLegalOfFile, IsLegalOfTheory, IsFilledText, IsLegalShortOfFile, IsLegalFilling}
 use Rattle.sap_replay.specs.RunRefusals.{IsIllegal, IsIllegalOfTheory, IsNeverIllegal, IsRunRefusedWith}
 use Rattle.sap_replay.specs.ShortRuns.{IsShortRefusedWith}
-use Rattle.sap_replay.specs.Sample.{IsSample}
+use Rattle.sap_tool.specs.ToldAtOnce.{IsToldAtOnce}
 
--- what words may ask for, aside from a sample, which reads nothing
+-- what words may ask for, aside from a text that is told at once, for which nothing is read
 pub data Command : Type 0 where
   -- the theory of a file, written in this way
   compile : (way : Way) (file : List ℕ) → Command
@@ -287,4 +287,4 @@ Means k = (behaviour_of k).Means
 -- the words ask for nothing that the program does
 pub record IsUnknown (words : List (List ℕ)) : Type 0 where
   pub no_command : (k : Command) → words ≡ spelled k → ⊥
-  pub no_sample : (n : ℕ) → IsSample words n → ⊥
+  pub no_text : (text : List ℕ) → IsToldAtOnce words text → ⊥

@@ -7,7 +7,7 @@ use Rattle.sap_tool.specs.Answers.{Answer, tells, IsAnswer, Asks, Fetched, Faile
 use Rattle.sap_outside.specs.Pieces.{pieces}
 use Rattle.sap_refusals.specs.Refusals.{refused_line}
 use Rattle.sap_refusals.specs.RunFaultTexts.{run_refused_line}
-use Rattle.sap_replay.specs.Sample.{IsSample, sample_text}
+use Rattle.sap_tool.specs.ToldAtOnce.{IsToldAtOnce}
 use Rattle.sap_replay.specs.declared.way.Way.{Way}
 
 -- the shelf tells that it holds these bytes as what the command fetches
@@ -50,12 +50,12 @@ pub record Given (c : Call) : Type 0 where
   pub out : Gained c.out (pieces text) text
   pub err : Gained c.err 0 []
 
--- out gained what is told of the sample that the words ask for, the shelf was asked for nothing, and nothing was put on err
-pub record GivenSample (c : Call) : Type 0 where
-  pub sessions : ℕ
-  pub asked : IsSample c.words sessions
+-- out gained the text that is told at once where the words ask for it, the shelf was asked for nothing, and nothing was put on err
+pub record GivenAtOnce (c : Call) : Type 0 where
+  pub text : List ℕ
+  pub asked : IsToldAtOnce c.words text
   pub fetched : c.after.asked ≡ c.before.asked
-  pub out : Gained c.out (pieces (sample_text sessions)) (sample_text sessions)
+  pub out : Gained c.out (pieces text) text
   pub err : Gained c.err 0 []
 
 -- err was told, at once, the text of this status, for one of its causes, and nothing was put on out
@@ -98,7 +98,7 @@ pub data IsRefusedCall (c : Call) : Type 0 where
 -- come, and when out has nothing.
 pub record Promises (c : Call) (status : ℕ) : Type 0 where
   pub statuses : Contains (0 ∷ 1 ∷ 2 ∷ 3 ∷ 4 ∷ 5 ∷ 6 ∷ []) status
-  pub given : status ≡ 0 → Given c ⊎ GivenSample c
+  pub given : status ≡ 0 → Given c ⊎ GivenAtOnce c
   pub refused : status ≡ 1 → Told c 1
   pub refused_run : status ≡ 2 → Told c 2
   pub usage : status ≡ 3 → Told c 3
@@ -134,8 +134,8 @@ pub record Promises (c : Call) (status : ℕ) : Type 0 where
       → Holds c.before.holds file bytes → Allows (compile way file) (alone bytes) text
       → (FailedOn c file → ⊥) → (Failed c.out → ⊥)
       → ((status ≡ 0) × Gained c.out (pieces text) text) ⊎ (status ≡ 6)
-  -- for a sample: it is what is told of it
-  pub must_tell_sample : (n : ℕ) → IsSample c.words n → (Failed c.out → ⊥)
-      → ((status ≡ 0) × Gained c.out (pieces (sample_text n)) (sample_text n)) ⊎ (status ≡ 6)
+  -- for words that ask for a text that is told at once: it is this text
+  pub must_tell : (text : List ℕ) → IsToldAtOnce c.words text → (Failed c.out → ⊥)
+      → ((status ≡ 0) × Gained c.out (pieces text) text) ⊎ (status ≡ 6)
   -- where the words, a file or a run are refused, out has nothing, whatever the status
   pub nothing_out : IsRefusedCall c → Gained c.out 0 []

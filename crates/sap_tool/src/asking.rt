@@ -30,6 +30,7 @@ pub fn ending<S: Shelf>(alloc: Global, words: &Vec<String>, shelf: &mut S) -> En
         Some(Command::Run(which, name, run)) => end_run(alloc, which, shelf, name, run),
         Some(Command::ToJson(run)) => end_to_json(alloc, shelf, run),
         Some(Command::Sample(word)) => end_sample(alloc, word),
+        Some(Command::Help(text)) => Ending::Help(text),
     }
 }
 

@@ -1,12 +1,13 @@
 //! What words ask for.
 
-ghost use Rattle.std.specs.Prelude.{◌≡◌, ◌≤◌, ℕ, List, [], ◌∷◌, MatchOption};
+ghost use Rattle.std.specs.Prelude.{◌≡◌, ◌≤◌, ℕ, List, [], ◌∷◌, codes, MatchOption};
 ghost use Rattle.sap_outside.specs.RunPieces.{most_run_bytes};
 ghost use Rattle.sap_tool.specs.Call.{bytes_of};
 ghost use Rattle.sap_tool.specs.Commands.{limit_of};
 ghost use Rattle.sap_tool.specs.code.Asked.{AsksFor, AsksNothing, on_file, on_run};
 
 use sap_outside::MOST_RUN_BYTES;
+use sap_pages::{commands, page_of, version};
 use sap_replay::{MOST_BYTES, MOST_THEORY_BYTES, Task, Way};
 
 /// What is done with what is fetched alone.
@@ -42,6 +43,8 @@ pub enum Command<'a> {
     ToJson(&'a str),
     /// A sample, of so many sessions as this word says.
     Sample(&'a str),
+    /// This text, which tells how the program is called.
+    Help(&'static str),
 }
 
 impl OnFile {
@@ -78,8 +81,22 @@ pub fn command_of(words: &Vec<String>) -> Option<Command<'_>>
         (λ command. AsksFor (bytes_of words.now.items) command) }
 {
     match words.as_slice() {
+        [word] => of_one_word(word.as_str()),
         [word, name] => of_one_name(word.as_str(), name.as_str()),
         [word, name, run] => of_two_names(word.as_str(), name.as_str(), run.as_str()),
+        _ => None,
+    }
+}
+
+// What this word asks for, with nothing behind it.
+fn of_one_word<'a>(word: &str) -> Option<Command<'a>>
+    ensures { MatchOption result (AsksNothing (word.now ∷ []))
+        (λ command. AsksFor (word.now ∷ []) command) }
+{
+    match word {
+        "--help" => Some(Command::Help(commands())),
+        "help" => Some(Command::Help(commands())),
+        "--version" => Some(Command::Help(version())),
         _ => None,
     }
 }
@@ -97,7 +114,19 @@ fn of_one_name<'a>(word: &str, name: &'a str) -> Option<Command<'a>>
         "why" => Some(Command::File(OnFile::Explain, name)),
         "to-json" => Some(Command::ToJson(name)),
         "sample" => Some(Command::Sample(name)),
+        "help" => of_help(name),
         _ => None,
+    }
+}
+
+// What `help` asks for, with this name behind it.
+fn of_help<'a>(name: &str) -> Option<Command<'a>>
+    ensures { MatchOption result (AsksNothing (codes "help" ∷ name.now ∷ []))
+        (λ command. AsksFor (codes "help" ∷ name.now ∷ []) command) }
+{
+    match page_of(name) {
+        Some(text) => Some(Command::Help(text)),
+        None => None,
     }
 }
 

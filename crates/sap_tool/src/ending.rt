@@ -12,6 +12,8 @@ use sap_text::Text;
 pub enum Ending {
     /// This text on out.
     Given(Text),
+    /// This text on out, which tells how the program is called, and for which no memory is wanted.
+    Help(&'static str),
     /// The words ask for nothing.
     Usage,
     /// A file or a run couldn't be read.

@@ -2,6 +2,7 @@
 #![tactic(auto)]
 
 mod asking;
+mod at_once_laws;
 mod command;
 mod ending;
 mod fetching;
@@ -10,6 +11,7 @@ mod fill_laws;
 mod json;
 mod json_laws;
 mod laws;
+mod promises_by_hand;
 mod runs;
 mod sessions;
 mod telling_laws;
@@ -17,9 +19,11 @@ mod top;
 mod why;
 mod why_laws;
 
+pub use at_once_laws::{help_by_hand, one_text_at_once, samples_and_help_are_told};
 pub use fill_laws::fill_by_hand;
 pub use json_laws::json_by_hand;
 pub use laws::unrestricted_files_are_shown;
+pub use promises_by_hand::{promises_are_broken_by_hand, promises_are_kept_by_hand};
 pub use sap_outside::{
     FileShelf, MemShelf, MemSink, Shelf, ShelfFault, Sink, SinkFault, StreamSink,
 };

@@ -18,6 +18,7 @@ use sap_gen::{
 use sap_intruder::filled_runs_are_legal;
 use sap_macro::uses_show_their_instances;
 use sap_outside::{Shelf, Sink, SinkFault, put_pieces};
+use sap_pages::one_page;
 use sap_read::{files_are_printable, files_are_runnable, one_file};
 use sap_replay::{
     legal_runs_are_not_refused, read_theories_can_run, refused_runs_have_one_cause,
@@ -30,7 +31,7 @@ use std::alloc::Global;
 ///
 /// - 0: out gained the text that the words ask for, whole: the theory of a file, the run opposite to one, the run that a short one
 ///   stands for, what is said of the restrictions and lemmas on one, a run as it is told, a picture of one, a run as JSON, the run that
-///   JSON is, or what is told of a sample.
+///   JSON is, what is told of a sample, the list of commands, the page of one, or the program's version.
 /// - 1: the file, or the theory, is refused.
 /// - 2: the run, or the JSON of one, is refused.
 /// - 3: the words are none of the program's.
@@ -67,6 +68,7 @@ pub fn sapic<S: Shelf, O: Sink, E: Sink>(
     refused_runs_have_one_cause();
     legal_runs_are_not_refused();
     filled_runs_are_legal();
+    one_page();
     run(alloc, words, shelf, out, err)
 }
 
@@ -100,6 +102,7 @@ fn deliver<O: Sink, E: Sink>(ending: &Ending, out: &mut O, err: &mut E) -> u8
 {
     match ending {
         Ending::Given(text) => give(out, err, text.as_bytes()),
+        Ending::Help(text) => give(out, err, text.as_bytes()),
         Ending::Usage => tell(err, 3, b"usage: sapic COMMAND ARGUMENTS\n"),
         Ending::Unread => tell(err, 4, b"read fault\n"),
         Ending::File(line) => tell(err, 1, line.as_bytes()),

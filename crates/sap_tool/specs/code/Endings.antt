@@ -16,6 +16,7 @@ use Rattle.sap_tool.specs.declared.ending.Ending.TheVariants as ending
 -- it is an answer that the call may have, or memory was wanting before there was one
 abbrev pub Ends : Call → Ending → Type 0
 Ends c (ending.Given text) = IsAnswer c (gives text)
+Ends c (ending.Help text) = IsAnswer c (gives text.now)
 Ends c ending.Usage = IsAnswer c (tells 3 usage_text)
 Ends c ending.Unread = IsAnswer c (tells 4 read_fault_text)
 Ends c (ending.File line) = IsAnswer c (tells 1 line)
@@ -51,6 +52,7 @@ unread_ending faults.Mem = ending.Mem
 -- what bytes that were fetched alone end with: a text, a refusal, or that memory was wanting
 abbrev pub EndsFile : Command → List ℕ → Ending → Type 0
 EndsFile k bytes (ending.Given text) = Allows k (alone bytes) text
+EndsFile k bytes (ending.Help text) = ⊥
 EndsFile k bytes ending.Usage = ⊥
 EndsFile k bytes ending.Unread = ⊥
 EndsFile k bytes (ending.File line) = IsAnswerTo k (alone bytes) (tells 1 line)
@@ -83,6 +85,7 @@ HasNotAsked r = r.after.asked ≡ r.before.asked
 -- with, or with a fault of the run.
 abbrev pub EndsBoth : Command → List ℕ → Reading → Ending → Type 0
 EndsBoth k bytes r (ending.Given text) = (z : List ℕ) × HasRead k r z × Allows k (and_run bytes z) text
+EndsBoth k bytes r (ending.Help text) = ⊥
 EndsBoth k bytes r ending.Usage = ⊥
 EndsBoth k bytes r ending.Unread = Accepts k bytes × Rose (r.before.faults r.run) (r.after.faults r.run) × HasGivenUp k r
 EndsBoth k bytes r (ending.File line) = IsAnswerTo k (alone bytes) (tells 1 line) × HasNotAsked r

@@ -7,6 +7,7 @@ use Rattle.sap_tool.specs.declared.ending.Ending.TheVariants as ending
 -- what is told of the sample that the words ask for; where they ask for none, that; or memory was wanting
 abbrev pub EndsSample : List (List ℕ) → Ending → Type 0
 EndsSample words (ending.Given text) = (n : ℕ) × IsSample words n × (text ≡ sample_text n)
+EndsSample words (ending.Help text) = ⊥
 EndsSample words ending.Usage = (n : ℕ) → IsSample words n → ⊥
 EndsSample words ending.Unread = ⊥
 EndsSample words (ending.File line) = ⊥

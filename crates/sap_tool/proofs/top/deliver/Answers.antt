@@ -8,6 +8,9 @@ use Rattle.sap_tool.proofs.top.deliver.Goals as goal
 pub returns-in-Given : goal.returns-in-Given
 returns-in-Given g c = λ k ends. answered (gives c.in-Given.text) (subst (Ends k) c.in-Given.is ends) (rw c.as_bytes.ensures at c.give.ensures)
 
+pub returns-in-Help : goal.returns-in-Help
+returns-in-Help g c = λ k ends. answered (gives c.in-Help.text.now) (subst (Ends k) c.in-Help.is ends) (rw c.as_bytes-in-Help.ensures.value at c.give-in-Help.ensures)
+
 pub returns-in-Usage : goal.returns-in-Usage
 returns-in-Usage g c = λ k ends. answered (tells 3 usage_text) (subst (Ends k) c.in-Usage.is ends) (c.tell.ensures _ (nothing_put _ _) usage_is)
 

@@ -1,0 +1,147 @@
+use Rattle.std.proofs.Common.{◌≢◌, ◌≤◌, ℕ, List, [], ◌∷◌, length, refl, sym, subst, inl, inr, arith, lit<, lit≤}
+use Rattle.std.proofs.lemmas.List.Elements.{All-nil, All-cons}
+use Rattle.std.specs.Prelude.{codes}
+use Rattle.sap_outside.specs.Pieces.{pieces}
+use Rattle.sap_outside.specs.RunPieces.{bad_head}
+use Rattle.sap_outside.specs.Stream.{Gained}
+use Rattle.sap_pages.specs.Texts.{version_text}
+use Rattle.sap_run_texts.specs.RunTexts.{told_neither, IsHeaded, process_head, rule_head}
+use Rattle.sap_replay.specs.RunRefusals.{no_run}
+use Rattle.sap_tool.specs.Commands.{to_json, run_alone}
+use Rattle.sap_tool.specs.Answers.{gives, tells, told_at_once, usage, unread_run, to_input, run_refused, complete, cut, asked_nothing, usage_text, read_fault_text}
+use Rattle.sap_tool.specs.Promises as promised
+use Rattle.sap_tool.specs.PromisesExamples.{version_words, json_words, unknown_words, opens, piece, got, failed, starved, untouched}
+use Rattle.sap_tool.proofs.HandCalls.{untold, version_told, version_only, version_known, json_known, json_untold, x_unknown}
+use Rattle.sap_tool.proofs.promises_by_hand.promises_are_kept_by_hand.Goals as goal
+
+pub returns-clause-given : goal.returns-clause-given
+returns-clause-given c =
+    untold version_words [] 0 (got version_text 1) untouched 0 (0, lit< tt, refl)
+    (λ e. inr (record { text = version_text; asked = version_told; fetched = refl; out = (refl, refl); err = (refl, refl) }))
+    (λ e. absurd (omega (arith, e))) (λ e. absurd (omega (arith, e))) (λ e. absurd (omega (arith, e))) (λ e. absurd (omega (arith, e)))
+    (λ e. absurd (omega (arith, e))) (λ e. absurd (omega (arith, e)))
+    (λ uncut. (λ e. absurd (omega (arith, e)), λ e. absurd (omega (arith, e))))
+    (λ u. absurd (version_known u))
+    (λ text told open_out. inl (refl, subst (λ (t : List ℕ). Gained (got version_text 1) (pieces t) t) (sym (version_only c.one_page.ensures text told)) (refl, refl)))
+
+no_process : (body : List ℕ) → IsHeaded process_head body (codes "x") → ⊥
+no_process body e = cc (e)
+
+no_rules : (body : List ℕ) → IsHeaded rule_head body (codes "x") → ⊥
+no_rules body e = cc (e)
+
+x_some : codes "x" ≢ []
+x_some e = cc (e)
+
+pub returns-clause-refused_run : goal.returns-clause-refused_run
+returns-clause-refused_run c =
+    untold json_words (opens (piece ∷ piece ∷ [])) 0 untouched (got (codes "run refused: wrong head\n") 1) 2 (2, lit< tt, refl)
+    (λ e. absurd (omega (arith, e))) (λ e. absurd (omega (arith, e)))
+    (λ e. record {
+      text = codes "run refused: wrong head\n";
+      cause = to_input (to_json (codes "r")) (run_alone (codes "x")) refl
+          (record {
+            joined = lit≤ tt;
+            pieces = codes "x" ∷ [] ∷ [];
+            are = record {
+              before = codes "x" ∷ [];
+              last = [];
+              parted = refl;
+              small = let P : List ℕ → Type 0 = λ piece. length piece ≤ 4096 in All-cons P (codes "x") ([] ∷ []) (lit≤ tt) (All-cons P [] [] (lit≤ tt) (All-nil P));
+              some = let P : List ℕ → Type 0 = λ piece. piece ≢ [] in All-cons P (codes "x") [] x_some (All-nil P);
+              within = lit≤ tt;
+              ends = inl refl;
+            };
+            whole = refl;
+            asked = refl;
+          })
+          (run_refused (codes "wrong head") (no_run (bad_head (lit≤ tt) (told_neither no_process no_rules))));
+      out = (refl, refl);
+      err = (refl, refl);
+    })
+    (λ e. absurd (omega (arith, e))) (λ e. absurd (omega (arith, e))) (λ e. absurd (omega (arith, e))) (λ e. absurd (omega (arith, e)))
+    (λ uncut. (λ e. absurd (omega (arith, e)), λ e. absurd (omega (arith, e))))
+    (λ u. absurd (json_known u))
+    (λ text told open_out. absurd (json_untold text told))
+
+pub returns-clause-usage : goal.returns-clause-usage
+returns-clause-usage c =
+    untold unknown_words [] 0 untouched (got usage_text 1) 3 (3, lit< tt, refl)
+    (λ e. absurd (omega (arith, e))) (λ e. absurd (omega (arith, e))) (λ e. absurd (omega (arith, e)))
+    (λ e. record { text = usage_text; cause = usage x_unknown refl; out = (refl, refl); err = (refl, refl) })
+    (λ e. absurd (omega (arith, e))) (λ e. absurd (omega (arith, e))) (λ e. absurd (omega (arith, e)))
+    (λ uncut. (λ e. absurd (omega (arith, e)), λ e. absurd (omega (arith, e))))
+    (λ u. (inl refl, (refl, refl)))
+    (λ text told open_out. absurd (x_unknown.no_text text told))
+
+pub returns-clause-unread : goal.returns-clause-unread
+returns-clause-unread c =
+    untold json_words (opens []) 1 untouched (got read_fault_text 1) 4 (4, lit< tt, refl)
+    (λ e. absurd (omega (arith, e))) (λ e. absurd (omega (arith, e))) (λ e. absurd (omega (arith, e))) (λ e. absurd (omega (arith, e)))
+    (λ e. record {
+      text = read_fault_text;
+      cause = unread_run (to_json (codes "r")) refl tt (lit≤ tt) (record { nexts = 0; few = lit≤ tt; asked = refl });
+      out = (refl, refl);
+      err = (refl, refl);
+    })
+    (λ e. absurd (omega (arith, e))) (λ e. absurd (omega (arith, e)))
+    (λ uncut. (λ e. absurd (omega (arith, e)), λ e. absurd (omega (arith, e))))
+    (λ u. absurd (json_known u))
+    (λ text told open_out. absurd (json_untold text told))
+
+pub returns-clause-unwritten : goal.returns-clause-unwritten
+returns-clause-unwritten c =
+    untold version_words [] 0 (failed 1 (codes "sapic") 1) (got (codes "write fault\n") 1) 5 (5, lit< tt, refl)
+    (λ e. absurd (omega (arith, e))) (λ e. absurd (omega (arith, e))) (λ e. absurd (omega (arith, e))) (λ e. absurd (omega (arith, e))) (λ e. absurd (omega (arith, e)))
+    (λ e. record {
+      answer = gives version_text;
+      cause = told_at_once version_text version_told refl;
+      broken = lit≤ tt;
+      taken = 5;
+      last = codes "write fault\n";
+      part = (record { whole = 0; next = lit< tt; behind = lit≤ tt; within = lit≤ tt; gained = (refl, refl) }, (refl, refl));
+      word = complete;
+    })
+    (λ e. absurd (omega (arith, e)))
+    (λ uncut. (λ e. (refl, refl), λ e. absurd (omega (arith, e))))
+    (λ u. absurd (version_known u))
+    (λ text told open_out. absurd (open_out (lit≤ tt)))
+
+pub returns-clause-unwritten_err : goal.returns-clause-unwritten_err
+returns-clause-unwritten_err c =
+    untold unknown_words [] 0 untouched (failed 2 (codes "usagewrite") 2) 5 (5, lit< tt, refl)
+    (λ e. absurd (omega (arith, e))) (λ e. absurd (omega (arith, e))) (λ e. absurd (omega (arith, e))) (λ e. absurd (omega (arith, e))) (λ e. absurd (omega (arith, e)))
+    (λ e. record {
+      answer = tells 3 usage_text;
+      cause = usage x_unknown refl;
+      broken = lit≤ tt;
+      taken = 5;
+      last = codes "write";
+      part = ((refl, refl), (refl, refl));
+      word = cut 5 (inl (lit≤ tt));
+    })
+    (λ e. absurd (omega (arith, e)))
+    (λ uncut. (λ e. absurd (uncut (inl (lit≤ tt))), λ e. absurd (omega (arith, e))))
+    (λ u. (inr (inl (refl, lit≤ tt)), (refl, refl)))
+    (λ text told open_out. absurd (x_unknown.no_text text told))
+
+pub returns-clause-wanting : goal.returns-clause-wanting
+returns-clause-wanting c =
+    untold version_words [] 0 untouched (got (codes "out of memory\n") 1) 6 (6, lit< tt, refl)
+    (λ e. absurd (omega (arith, e))) (λ e. absurd (omega (arith, e))) (λ e. absurd (omega (arith, e))) (λ e. absurd (omega (arith, e))) (λ e. absurd (omega (arith, e)))
+    (λ e. absurd (omega (arith, e)))
+    (λ e. promised.before_all (codes "out of memory\n") (asked_nothing refl) (refl, refl) (refl, refl) complete)
+    (λ uncut. (λ e. absurd (omega (arith, e)), λ e. (refl, refl)))
+    (λ u. absurd (version_known u))
+    (λ text told open_out. inr refl)
+
+pub returns-clause-wanting_out : goal.returns-clause-wanting_out
+returns-clause-wanting_out c =
+    untold version_words [] 0 (starved 1 (codes "sapic") 1) (got (codes "out of memory\n") 1) 6 (6, lit< tt, refl)
+    (λ e. absurd (omega (arith, e))) (λ e. absurd (omega (arith, e))) (λ e. absurd (omega (arith, e))) (λ e. absurd (omega (arith, e))) (λ e. absurd (omega (arith, e)))
+    (λ e. absurd (omega (arith, e)))
+    (λ e. promised.while_put (gives version_text) 5 (codes "out of memory\n") (told_at_once version_text version_told refl) (lit≤ tt)
+    (record { whole = 0; next = lit< tt; behind = lit≤ tt; within = lit≤ tt; gained = (refl, refl) }, (refl, refl)) complete)
+    (λ uncut. (λ e. absurd (omega (arith, e)), λ e. (refl, refl)))
+    (λ u. absurd (version_known u))
+    (λ text told open_out. inr refl)
