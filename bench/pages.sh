@@ -33,7 +33,7 @@ import sys
 
 TOP, WORK, *PAGES = sys.argv[1:]
 PAGES = PAGES or ["README.md", *(os.path.relpath(it, TOP) for of in ("docs/*.md", "crates/*/README.md") for it in sorted(glob.glob(f"{TOP}/{of}")))]
-MARK = re.compile(r"<!-- (file|run|writes|says|files of|not run:)(.*?) *-->")
+MARK = re.compile(r"<!-- (files of|file|run|writes|says|not run:)(.*?) *-->")
 IS_COMMAND = re.compile(r"\(?(\./|bench/)?(sapic|rt|cd|sed|grep|printf|sh|cmp|diff|for|python3|\./\S+|bench/\S+)( |$)")
 counts = {"commands": 0, "texts": 0, "files": 0, "not run": 0}
 faults = []
