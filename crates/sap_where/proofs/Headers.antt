@@ -1,7 +1,8 @@
 -- Which word of a header is wrong.
-use Rattle.std.proofs.Common.{◌≡◌, ℕ, Bool, true, false, List, [], ◌∷◌, drop, refl, sym, ap, subst, arith}
+use Rattle.std.proofs.Common.{◌≡◌, ℕ, true, false, List, [], ◌∷◌, drop, refl, sym, ap, subst, arith}
 use Rattle.std.proofs.lemmas.Slice.Eq.{bytes_eq-Decides}
 use Rattle.std.specs.Prelude.{codes, is_some}
+use Rattle.std.proofs.lemmas.Bool.{both_ways}
 use Rattle.sap_grammar.specs.Words.{Word, mark, name, number, quoted, is_mark, starts}
 use Rattle.sap_grammar.specs.Reading.{as_name, name_at}
 use Rattle.sap_where.specs.Where.{StartsFile}
@@ -48,18 +49,15 @@ begun w e = (name [] ∷ mark (codes "begin") ∷ [], record { name_of = []; res
 named : (w v : Word) (x : List ℕ) → w ≡ mark (codes "theory") → v ≡ name x → GoOn StartsFile (w ∷ v ∷ [])
 named w v x e f = (mark (codes "begin") ∷ [], record { name_of = x; rest = []; spelled = λ i. e i ∷ f i ∷ mark (codes "begin") ∷ [] })
 
-clash : (b : Bool) → b ≡ false → b ≡ true → ⊥
-clash b e f = absurd (cc)
-
 -- such words begin with no header
 not_first : (ws : List Word) → starts (codes "theory") ws ≡ false → StartsFile ws → ⊥
-not_first ws e h = clash _ e (subst (λ (vs : List Word). starts (codes "theory") vs ≡ true) (sym h.spelled) is_theory)
+not_first ws e h = both_ways _ e (subst (λ (vs : List Word). starts (codes "theory") vs ≡ true) (sym h.spelled) is_theory)
 
 not_second : (ws : List Word) → is_some (name_at (drop 1 ws)) ≡ false → StartsFile ws → ⊥
-not_second ws e h = clash _ e (subst (λ (vs : List Word). is_some (name_at (drop 1 vs)) ≡ true) (sym h.spelled) refl)
+not_second ws e h = both_ways _ e (subst (λ (vs : List Word). is_some (name_at (drop 1 vs)) ≡ true) (sym h.spelled) refl)
 
 not_third : (ws : List Word) → starts (codes "begin") (drop 2 ws) ≡ false → StartsFile ws → ⊥
-not_third ws e h = clash _ e (subst (λ (vs : List Word). starts (codes "begin") (drop 2 vs) ≡ true) (sym h.spelled) is_begin)
+not_third ws e h = both_ways _ e (subst (λ (vs : List Word). starts (codes "begin") (drop 2 vs) ≡ true) (sym h.spelled) is_begin)
 
 pub wrong_first : (ws : List Word) → starts (codes "theory") ws ≡ false → IsFirstWrong StartsFile ws 0
 wrong_first [] e = record {
@@ -74,7 +72,7 @@ wrong_first (w ∷ ws) e = record {
   before = (mark (codes "theory") ∷ name [] ∷ mark (codes "begin") ∷ [], record { name_of = []; rest = []; spelled = refl });
   wrong = λ lt g.
       let is : w ≡ mark (codes "theory") = same_head _ _ _ _ g.1.spelled in
-      clash _ e (subst (λ (v : Word). is_mark (codes "theory") v ≡ true) (sym is) is_theory);
+      both_ways _ e (subst (λ (v : Word). is_mark (codes "theory") v ≡ true) (sym is) is_theory);
 }
 
 pub wrong_second : (ws : List Word) → starts (codes "theory") ws ≡ true → is_some (name_at (drop 1 ws)) ≡ false → IsFirstWrong StartsFile ws 1
@@ -91,7 +89,7 @@ wrong_second (w ∷ v ∷ ws) e f = record {
   before = begun w (mark_is (codes "theory") w e);
   wrong = λ lt g.
       let is : v ≡ name g.1.name_of = same_head _ _ _ _ (same_tail _ _ _ _ g.1.spelled) in
-      clash _ f (subst (λ (u : Word). is_some (as_name u) ≡ true) (sym is) refl);
+      both_ways _ f (subst (λ (u : Word). is_some (as_name u) ≡ true) (sym is) refl);
 }
 
 pub wrong_third : (ws : List Word) → starts (codes "theory") ws ≡ true → is_some (name_at (drop 1 ws)) ≡ true → starts (codes "begin") (drop 2 ws) ≡ false → IsFirstWrong StartsFile ws 2
@@ -113,7 +111,7 @@ wrong_third (w ∷ v ∷ u ∷ ws) e f h =
       before = named w v n.0 (mark_is (codes "theory") w e) n.1;
       wrong = λ lt g.
           let is : u ≡ mark (codes "begin") = same_head _ _ _ _ (same_tail _ _ _ _ (same_tail _ _ _ _ g.1.spelled)) in
-          clash _ h (subst (λ (t : Word). is_mark (codes "begin") t ≡ true) (sym is) is_begin);
+          both_ways _ h (subst (λ (t : Word). is_mark (codes "begin") t ≡ true) (sym is) is_begin);
     }
 
 pub none_wrong : (ws : List Word) → starts (codes "theory") ws ≡ true → is_some (name_at (drop 1 ws)) ≡ true → starts (codes "begin") (drop 2 ws) ≡ true → StartsFile ws

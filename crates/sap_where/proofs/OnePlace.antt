@@ -1,5 +1,6 @@
 -- A cause stands at one place.
 use Rattle.std.proofs.Common.{◌≡◌, ◌≤◌, ◌<◌, ◌+◌, ℕ, zero, suc, List, [], ◌∷◌, ◌++◌, append_assoc, take, drop, refl, sym, ap, ◌∙◌, subst, arith, Some}
+use Rattle.sap_terms.proofs.PlainLaws.Numbers.{same_number}
 use Rattle.sap_text.specs.declared.token.Token.{Token}
 use Rattle.sap_grammar.specs.Words.{Word, words_of}
 use Rattle.sap_read.specs.Files.{AreTokens}
@@ -11,12 +12,6 @@ use Rattle.sap_where.specs.Uses.{IsUse}
 use Rattle.sap_where.specs.Where.{BeginsAt, HoldsOnce, IsFirst, IsSecond, IsTakenAt, IsWhere, StartsFile, at_byte, at_header, at_item, at_name, at_process, at_use, one_byte, only_statement, second_definition, second_statement, stretch_at}
 use Rattle.sap_expect.specs.FirstWrong.{GoOn, IsFirstWrong}
 
-between : (m n : ℕ) → (m < n → ⊥) → (n < m → ⊥) → m ≡ n
-between zero zero f g = refl
-between zero (suc n) f g = absurd (f (omega arith))
-between (suc m) zero f g = absurd (g (omega arith))
-between (suc m) (suc n) f g = ap suc (between m n (λ lt. f (omega (arith, lt))) (λ lt. g (omega (arith, lt))))
-
 not_second : (P : ℕ → Type 0) (j k : ℕ) → IsSecond P j → IsSecond P k → j < k → ⊥
 not_second P j k a b lt =
     let same = b.no_other j lt a.is in
@@ -25,10 +20,10 @@ not_second P j k a b lt =
     absurd (omega (arith, same, before, also))
 
 one_second : (P : ℕ → Type 0) (j k : ℕ) → IsSecond P j → IsSecond P k → j ≡ k
-one_second P j k a b = between j k (not_second P j k a b) (not_second P k j b a)
+one_second P j k a b = same_number j k (not_second P j k a b) (not_second P k j b a)
 
 one_first : (P : ℕ → Type 0) (j k : ℕ) → IsFirst P j → IsFirst P k → j ≡ k
-one_first P j k a b = between j k (λ lt. b.none_before j lt a.is) (λ lt. a.none_before k lt b.is)
+one_first P j k a b = same_number j k (λ lt. b.none_before j lt a.is) (λ lt. a.none_before k lt b.is)
 
 not_once : {A : Type 0} (P : ℕ → Type 0) (k : ℕ) → HoldsOnce P → IsSecond P k → A
 not_once P k h a = absurd (h a.first k a.before a.is_first a.is)
@@ -63,7 +58,7 @@ not_wrong Is ws j k a b lt =
     a.wrong (omega (arith, lt, most)) (fewer Is (j + 1) k ws (omega (arith, lt)) b.before)
 
 pub one_wrong : (Is : List Word → Type 0) (ws : List Word) (j k : ℕ) → IsFirstWrong Is ws j → IsFirstWrong Is ws k → j ≡ k
-one_wrong Is ws j k a b = between j k (not_wrong Is ws j k a b) (not_wrong Is ws k j b a)
+one_wrong Is ws j k a b = same_number j k (not_wrong Is ws j k a b) (not_wrong Is ws k j b a)
 
 some_same : {a b : ℕ} → Some a ≡ Some b → a ≡ b
 some_same e = cc

@@ -1,6 +1,7 @@
 -- One text is what is shown of a stretch.
-use Rattle.std.proofs.Common.{◌≡◌, ◌<◌, ◌+◌, ◌-◌, ℕ, zero, suc, List, [], ◌∷◌, ◌++◌, refl, sym, ap, ◌∙◌, arith}
+use Rattle.std.proofs.Common.{◌≡◌, ◌<◌, ◌+◌, ◌-◌, ℕ, zero, suc, List, [], ◌∷◌, ◌++◌, sym, ap, ◌∙◌, arith}
 use Rattle.std.specs.Prelude.{codes, decimal}
+use Rattle.sap_terms.proofs.PlainLaws.Numbers.{same_number}
 use Rattle.sap_where.specs.declared.place.Position.{Position}
 use Rattle.sap_where.specs.declared.place.Stretch.{Stretch}
 use Rattle.sap_where.specs.Positions.{IsPlaceText, IsPosition, LineBegins, LineEnds, picture, shown_from, shown_to}
@@ -13,13 +14,7 @@ not_later z at m (suc n) a b lt =
     a.no_feed n (omega (arith, lt)) (omega (arith, le)) (b.begins n (omega arith))
 
 pub one_begin : (z : List ℕ) (at m n : ℕ) → LineBegins z at m → LineBegins z at n → m ≡ n
-one_begin z at m n a b = between m n (not_later z at m n a b) (not_later z at n m b a)
-  where
-    between : (m n : ℕ) → (m < n → ⊥) → (n < m → ⊥) → m ≡ n
-    between zero zero f g = refl
-    between zero (suc n) f g = absurd (f (omega arith))
-    between (suc m) zero f g = absurd (g (omega arith))
-    between (suc m) (suc n) f g = ap suc (between m n (λ lt. f (omega (arith, lt))) (λ lt. g (omega (arith, lt))))
+one_begin z at m n a b = same_number m n (not_later z at m n a b) (not_later z at n m b a)
 
 -- nor end twice
 not_further : (z : List ℕ) (at m n : ℕ) → LineEnds z at m → LineEnds z at n → m < n → ⊥
@@ -29,13 +24,7 @@ not_further z at m n a b lt =
     b.no_feed m low lt (a.ends (omega (arith, lt, most)))
 
 pub one_end : (z : List ℕ) (at m n : ℕ) → LineEnds z at m → LineEnds z at n → m ≡ n
-one_end z at m n a b = between m n (not_further z at m n a b) (not_further z at n m b a)
-  where
-    between : (m n : ℕ) → (m < n → ⊥) → (n < m → ⊥) → m ≡ n
-    between zero zero f g = refl
-    between zero (suc n) f g = absurd (f (omega arith))
-    between (suc m) zero f g = absurd (g (omega arith))
-    between (suc m) (suc n) f g = ap suc (between m n (λ lt. f (omega (arith, lt))) (λ lt. g (omega (arith, lt))))
+one_end z at m n a b = same_number m n (not_further z at m n a b) (not_further z at n m b a)
 
 same_position : (p q : Position) → p.line ≡ q.line → p.column ≡ q.column → p ≡ q
 same_position p q e f = λ i. record { line = e i; column = f i }
