@@ -1,8 +1,6 @@
 -- What is wanted can always be completed, and what a part is otherwise weighs less.
 use Rattle.std.proofs.Common.{rules, ◌≡◌, ◌<◌, ◌+◌, ℕ, Bool, true, List, [], ◌∷◌, ◌++◌, Option, Some, None, refl, subst, arith}
 use Rattle.std.specs.Prelude.{nat_lt}
-use Rattle.std.proofs.lemmas.Slice.Eq.{bytes_eq-Decides}
-use Rattle.std.specs.Str.{bytes_eq}
 use Rattle.sap_terms.proofs.PlainLaws.Known.{own_name}
 use Rattle.sap_grammar.specs.Words.{Word, mark, name}
 use Rattle.sap_expect.specs.declared.wanted.Part.{Part}

@@ -1,6 +1,5 @@
 -- The words of a file follow the table.
 use Rattle.std.proofs.Common.{◌≡◌, ◌≤◌, ◌<◌, ◌+◌, ℕ, zero, suc, Bool, true, false, List, [], ◌∷◌, ◌++◌, length, take, drop, None, refl, sym, ◌∙◌, ap, subst, rules}
-use Rattle.std.proofs.lemmas.Slice.Eq.{bytes_eq-Decides}
 use Rattle.std.specs.Prelude.{codes, nat_le, ◌||◌}
 use Rattle.std.specs.Str.{bytes_eq}
 use Rattle.sap_text.specs.declared.token.Token.{Token}
@@ -10,9 +9,9 @@ use Rattle.sap_terms.specs.declared.signature.Builtin.{Builtin}
 use Rattle.sap_terms.specs.declared.limits.TheConstants.{MOST_ARITY}
 use Rattle.sap_terms.proofs.PlainLaws.Known.{one_name}
 use Rattle.sap_formula.specs.declared.lemma.Mode.{Mode}
-use Rattle.sap_grammar.specs.Words.{Word, mark, name, number, word_of, words_of}
+use Rattle.sap_grammar.specs.Words.{Word, mark, name, number, words_of}
 use Rattle.sap_grammar.specs.Words as words_mod
-use Rattle.sap_grammar.specs.Cut.{IsCut, Placed, StartsItem, cut_none, cut_one, is_item_word, placed, words}
+use Rattle.sap_grammar.specs.Cut.{IsCut, Placed, StartsItem, cut_none, cut_one, is_item_word, words}
 use Rattle.sap_grammar.specs.Declarations.{AreBuiltins, AreSymbols, IsBuiltin, IsSymbol, builtins_last, builtins_more, spells_asymmetric, spells_hashing, spells_private, spells_public, spells_revealing, spells_signing, spells_symmetric, symbols_last, symbols_more, value}
 use Rattle.sap_grammar.specs.Items.{items_end, items_more}
 use Rattle.sap_grammar.specs.declared.limits.Limits.{Limits}
