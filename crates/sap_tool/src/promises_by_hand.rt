@@ -1,6 +1,6 @@
 //! The promises tried by hand.
 
-ghost use Rattle.std.specs.Prelude.{ℕ, codes, List, [], ◌∷◌, ◌++◌, take};
+ghost use Rattle.std.specs.Prelude.{ℕ, codes, List, [], ◌∷◌, ◌++◌};
 ghost use Rattle.sap_outside.specs.Requests.{begin, fetch};
 ghost use Rattle.sap_pages.specs.Texts.{version_text};
 ghost use Rattle.sap_tool.specs.Answers.{memory_text, read_fault_text, usage_text, write_fault_text};
@@ -28,9 +28,10 @@ pub fn promises_are_kept_by_hand()
     one_page();
 }
 
-/// A law: calls that break them, each beside one that keeps them: a byte more on out, or a text on err beside it; the shelf asked for a
-/// file where nothing is read; another run opened first; half a last word on err after one fault; two puts for one piece that was cut
-/// short; another cause's text; a status that none of the causes has.
+/// A law: calls that break them, most beside one that keeps them: a byte more on out, or a text on err beside it; the shelf asked for a
+/// file where nothing is read; known words that are told as unknown; another run opened first, or no fault of the run; half a last word
+/// on err, or one behind another text after one fault; two puts for one piece that was cut short; another run opened where memory is
+/// wanting; a status that there isn't.
 pub fn promises_are_broken_by_hand()
     ensures more { Promises (asking version_words [] 0 (got (version_text ++ codes "\n") 1) untouched) 0 → ⊥ }
     ensures both_sinks { Promises (asking version_words [] 0 (got version_text 1) (got usage_text 1)) 0 → ⊥ }
