@@ -5,6 +5,7 @@
 #   back    the same with the entries in the other order
 #   wide    so many entries of 255 nodes, which differ at their innermost, and a goal of 256 over one of them
 #   again   a goal of 256 nodes, so many times of one search
+#   twin    so many keys, each encrypted by a pair of the one before with itself, so that each is needed twice
 #   goals   so many goals of one line each, of one search that knows a hundred times as many terms
 #
 # Sizes double. For each it tells the instructions, by valgrind, and their ratio to the size before, which is to be at most 2.2; for
@@ -42,6 +43,15 @@ row() {
                     printf "app sdec %d %d; ", opened, by
                 }
                 printf "entry %d\n", 2 * n
+            } else if (kind == "twin") {
+                printf "derive %% symmetric -k/1 %% %s", key(0)
+                for (k = 1; k <= n; k++) printf " | senc(%s,<%s,%s>)", key(k), key(k - 1), key(k - 1)
+                printf " %% %s %% ", key(n)
+                for (k = 1; k <= n; k++) {
+                    by = k > 1 ? n + 2 * k - 2 : 0
+                    printf "app pair %d %d; app sdec %d %d; ", by, by, k, n + 2 * k - 1
+                }
+                printf "entry %d\n", 3 * n
             } else if (kind == "wide") {
                 printf "derive %% hashing -k/1 %% "
                 for (k = 1; k <= n; k++) printf "%s%s", (k > 1 ? " | " : ""), wide(k)
@@ -107,6 +117,7 @@ kind() {
 
 kind chain 2500 5000 10000
 kind back 2500 5000 10000
+kind twin 2500 5000 10000
 kind wide 2500 5000 10000
 kind again 2500 5000 10000
 kind goals 125 250 500

@@ -4,6 +4,7 @@ mod Clausal
 mod Completed
 mod Decided
 mod Deduced
+mod FoundDeduced
 mod FoundOnce
 mod Gets
 mod Joined

@@ -1,5 +1,5 @@
 -- The lines that are written give what they say.
-use Rattle.std.proofs.Common.{◌≡◌, ◌<◌, ◌≤◌, ◌+◌, ℕ, zero, suc, List, [], ◌∷◌, ◌++◌, length, map, take, Some, refl, sym, ap, ◌∙◌, ◌⊎◌, inl, inr, arith, subst}
+use Rattle.std.proofs.Common.{◌≡◌, ◌<◌, ◌≤◌, ◌+◌, ℕ, zero, suc, List, [], ◌∷◌, ◌++◌, length, map, take, Some, refl, sym, ap, ◌∙◌, inl, inr, arith, subst}
 use Rattle.std.specs.Prelude.{slice_get}
 use Rattle.std.proofs.lemmas.List.{length-append}
 use Rattle.sap_terms.specs.Tree.{Tree, public, node_count}
@@ -21,6 +21,7 @@ use Rattle.sap_derive.proofs.Completed.{all-trees, known-below}
 use Rattle.sap_derive.proofs.Gets.{get-more, get-behind, get-cases, get-last_cases}
 use Rattle.sap_derive.proofs.Nearby.{near, near-listed}
 use Rattle.sap_derive.proofs.Parts.{tree-got}
+use Rattle.sap_derive.proofs.Pushed.{once-more}
 
 -- the trees of two lists
 pub trees-append : (trees : List Tree) (xs ys : List ℕ) → trees_at trees (xs ++ ys) ≡ trees_at trees xs ++ trees_at trees ys
@@ -62,17 +63,9 @@ record AreFound (s : Closure) (entries : List ℕ) (goal : ℕ) (found : List �
 
 one-found : (s : Closure) (entries : List ℕ) (goal : ℕ) (found : List ℕ) (m rank : ℕ) → AreFound s entries goal found → IsNeeded s entries goal rank → slice_get s.known rank ≡ Some m → ¬ IsListed (entries ++ found) m
     → AreFound s entries goal (found ++ m ∷ [])
-one-found s entries goal found m rank are need known new = record { once = once; new = fresh; needed = needed } where
-  behind : (k : ℕ) → slice_get found k ≡ Some m → ⊥
-  behind k e = new (length entries + k, get-behind entries found k ∙ e)
-
-  once : StandOnce (found ++ m ∷ [])
-  once i j n a b = go (get-last_cases found m i n a) (get-last_cases found m j n b) where
-    go : (slice_get found i ≡ Some n) ⊎ ((i ≡ length found) × (n ≡ m)) → (slice_get found j ≡ Some n) ⊎ ((j ≡ length found) × (n ≡ m)) → i ≡ j
-    go (inl x) (inl y) = are.once i j n x y
-    go (inl x) (inr y) = absurd (behind i (x ∙ ap Some y.1))
-    go (inr x) (inl y) = absurd (behind j (y ∙ ap Some x.1))
-    go (inr x) (inr y) = x.0 ∙ sym y.0
+one-found s entries goal found m rank are need known new = record { once = once-more found m are.once none; new = fresh; needed = needed } where
+  none : ¬ IsListed found m
+  none l = new (length entries + l.0, get-behind entries found l.0 ∙ l.1)
 
   fresh : (k n : ℕ) → slice_get (found ++ m ∷ []) k ≡ Some n → ¬ IsListed entries n
   fresh k n e =

@@ -4,7 +4,7 @@ use Rattle.std.specs.Prelude.{slice_get}
 use Rattle.std.proofs.lemmas.Option.{slice_get_within}
 use Rattle.sap_derive.specs.code.Lines.{premises_of}
 use Rattle.sap_derive.specs.code.Closed.{IsSound}
-use Rattle.sap_derive.specs.code.Listed.{IsListed}
+use Rattle.sap_derive.specs.code.Listed.{IsListed, StandOnce}
 use Rattle.sap_derive.specs.code.Needed.{StandsOn, IsNeeded, goal_itself, premise, IsNewRank, IsCovered, IsNeededNew, AreNeeded, AreNeededTo}
 use Rattle.sap_derive.specs.declared.clause.Clause.{Clause}
 use Rattle.sap_derive.specs.declared.closure.Closure.{Closure}
@@ -26,6 +26,10 @@ pub none-taken : (xs : List ℕ) → take 0 xs ≡ []
 none-taken [] = refl
 none-taken (x ∷ xs) = refl
 
+-- where there is none, none stands twice
+pub none-twice : StandOnce []
+none-twice i j n a b = absurd (cc)
+
 -- what is covered stays so, as ranks come
 pub cover-kept : (known entries old new : List ℕ) → ((k j : ℕ) → slice_get old k ≡ Some j → slice_get new k ≡ Some j) → (n : ℕ) → IsCovered known entries old n → IsCovered known entries new n
 cover-kept known entries old new kept n (inl l) = inl l
@@ -34,11 +38,12 @@ cover-kept known entries old new kept n (inr h) = inr (λ j e. let l = h j e in 
 module _ (s : Closure) (entries : List ℕ) (goal : ℕ) (sound : IsSound s) where
   -- the goal's rank alone has come, if its number is no entry
   pub needed-first : (n : ℕ) (ranks : List ℕ) → slice_get s.known goal ≡ Some n → ((j : ℕ) → IsListed ranks j → IsListed [] j ⊎ IsNewRank s.known entries n j) → IsCovered s.known entries ranks n
-      → AreNeededTo s entries goal ranks 0
-  needed-first n ranks at only covered = record {
+      → StandOnce ranks → AreNeededTo s entries goal ranks 0
+  needed-first n ranks at only covered once = record {
     itself = λ m e. let same : n ≡ m = cc in subst (λ (i : ℕ). IsCovered s.known entries ranks i) same covered;
     needed = λ j l. one j (only j l);
     closed = λ k rank j m l e on h. absurd (omega arith);
+    once = once;
   } where
     one : (j : ℕ) → IsListed [] j ⊎ IsNewRank s.known entries n j → IsNeededNew s entries goal j
     one j (inl l) = let e = l.1 in absurd (cc)
@@ -54,11 +59,12 @@ module _ (s : Closure) (entries : List ℕ) (goal : ℕ) (sound : IsSound s) whe
   pub needed-next : (old new : List ℕ) (k rank : ℕ) → slice_get old k ≡ Some rank → ((i j : ℕ) → slice_get old i ≡ Some j → slice_get new i ≡ Some j)
       → ((j : ℕ) → IsListed new j → IsListed old j ⊎ (StandsOn s entries rank j × ((n : ℕ) → slice_get s.known j ≡ Some n → ¬ IsListed entries n)))
       → ((j n : ℕ) → StandsOn s entries rank j → slice_get s.known j ≡ Some n → IsCovered s.known entries new n)
-      → AreNeededTo s entries goal old k → AreNeededTo s entries goal new (k + 1)
-  needed-next old new k rank at kept only each a = record {
+      → (StandOnce old → StandOnce new) → AreNeededTo s entries goal old k → AreNeededTo s entries goal new (k + 1)
+  needed-next old new k rank at kept only each once a = record {
     itself = λ n e. cover-kept s.known entries old new kept n (a.itself n e);
     needed = λ j l. come j (only j l);
     closed = closed;
+    once = once a.once;
   } where
     come : (j : ℕ) → IsListed old j ⊎ (StandsOn s entries rank j × ((n : ℕ) → slice_get s.known j ≡ Some n → ¬ IsListed entries n)) → IsNeededNew s entries goal j
     come j (inl l) = a.needed j l

@@ -1,6 +1,9 @@
 -- What is found of a goal behind entries.
-use Rattle.std.specs.Prelude.{◌≡◌, ◌≤◌, ℕ, List, ◌++◌, slice_get, Some, All}
+use Rattle.std.specs.Prelude.{◌≡◌, ◌≤◌, ℕ, List, [], ◌++◌, slice_get, Some, All}
+use Rattle.sap_terms.specs.Deduce.{IsDeducible}
+use Rattle.sap_terms.specs.Equations.{equations}
 use Rattle.sap_terms.specs.Message.{IsMessage}
+use Rattle.sap_terms.specs.Normal.{IsNormal}
 use Rattle.sap_terms.specs.Tree.{Tree, node_count}
 use Rattle.sap_terms.specs.Signature.{Sig}
 use Rattle.sap_terms.specs.declared.limits.TheConstants.{MOST_TERM_NODES}
@@ -37,6 +40,12 @@ pub record IsFoundIn (old : Searched) (goal : Tree) (d : Derivation) (new : Sear
 -- the goal is found behind these entries
 abbrev pub IsFound : Sig → List Tree → Tree → Derivation → Type 0
 IsFound g entries goal d = (given : List Tree) × IsFoundBy g entries goal d given
+
+-- a normal goal that is found can be deduced from the entries
+abbrev pub FoundGoalsAreDeducible : Type 0
+FoundGoalsAreDeducible =
+    (g : Sig) (entries : List Tree) (goal : Tree) (d : Derivation) → IsNormal (equations g) goal
+    → IsFound g entries goal d → IsDeducible g [] entries goal
 
 -- a message of at most 256 nodes
 abbrev pub IsSmallMessage : Sig → Tree → Type 0

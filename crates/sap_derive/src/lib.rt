@@ -21,6 +21,8 @@ mod write;
 pub use by_hand::lines_by_hand;
 pub use derivation::Derivation;
 pub use derived::derive;
-pub use laws::{deducibility_is_decided, derivations_stay_near, near_by_hand};
+pub use laws::{
+    deducibility_is_decided, derivations_stay_near, found_goals_are_deducible, near_by_hand,
+};
 pub use line::{Line, LineList};
 pub use search::Search;

@@ -1,7 +1,7 @@
 // Numbers in a list, in which each is found at once.
 ghost use Rattle.std.specs.Prelude.{◌≡◌, ◌<◌, ◌≤◌, ◌⊎◌, ◌↔◌, ℕ, [], ◌∷◌, ◌++◌, length, slice_get, take, Some, IfOk, IfSome, IfNone, OnOk, OnErr};
 ghost use Rattle.std.specs.Vec.{vec_len};
-ghost use Rattle.sap_derive.specs.code.Listed.{IsListed, TellPlaces, Ascend};
+ghost use Rattle.sap_derive.specs.code.Listed.{IsListed, StandOnce, TellPlaces, Ascend};
 
 use sap_terms::Mem;
 use std::alloc::Global;
@@ -125,6 +125,7 @@ pub(crate) fn list(items: &mut Listing, n: u64) -> Result<(), Mem>
     ensures kept { (m : ℕ) → IsListed items.old m → IsListed items.new m }
     ensures only { (m : ℕ) → IsListed items.new m → IsListed items.old m ⊎ (m ≡ n) }
     ensures places { (k m : ℕ) → slice_get items.old k ≡ Some m → slice_get items.new k ≡ Some m }
+    ensures once { StandOnce items.old → StandOnce items.new }
     ensures ok { OnOk result (IsListed items.new n) }
 {
     if items.place(n).is_some() {

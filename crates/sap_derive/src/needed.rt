@@ -15,6 +15,7 @@ fn need_number(known: &Listing, entries: &Listing, ranks: &mut Listing, n: u64) 
     requires known { IsListed known.now n }
     ensures kept { (k j : ℕ) → slice_get ranks.old k ≡ Some j → slice_get ranks.new k ≡ Some j }
     ensures only { (j : ℕ) → IsListed ranks.new j → IsListed ranks.old j ⊎ IsNewRank known.now entries.now n j }
+    ensures once { StandOnce ranks.old → StandOnce ranks.new }
     ensures ok { OnOk result (IsCovered known.now entries.now ranks.new n) }
 {
     if entries.place(n).is_some() {
@@ -37,6 +38,7 @@ fn need_all(
     requires known { AreListed known.now numbers.now }
     ensures kept { (k j : ℕ) → slice_get ranks.old k ≡ Some j → slice_get ranks.new k ≡ Some j }
     ensures only { (j : ℕ) → IsListed ranks.new j → IsListed ranks.old j ⊎ IsNewRankOf known.now entries.now numbers.now j }
+    ensures once { StandOnce ranks.old → StandOnce ranks.new }
     ensures ok { OnOk result (AreCovered known.now entries.now ranks.new numbers.now) }
 {
     for n in numbers {
@@ -57,6 +59,7 @@ fn need_below(
     requires new { (n : ℕ) → slice_get closure.now.known rank ≡ Some n → ¬ IsListed entries.now n }
     ensures kept { (k j : ℕ) → slice_get ranks.old k ≡ Some j → slice_get ranks.new k ≡ Some j }
     ensures only { (j : ℕ) → IsListed ranks.new j → IsListed ranks.old j ⊎ (StandsOn closure.now entries.now rank j × ((n : ℕ) → slice_get closure.now.known j ≡ Some n → ¬ IsListed entries.now n)) }
+    ensures once { StandOnce ranks.old → StandOnce ranks.new }
     ensures ok { OnOk result ((j n : ℕ) → StandsOn closure.now entries.now rank j → slice_get closure.now.known j ≡ Some n → IsCovered closure.now.known entries.now ranks.new n) }
 {
     match closure.ways[rank as usize] {
@@ -83,6 +86,7 @@ pub(crate) fn need(
     requires closure { IsClosure closure.now }
     requires goal { goal < length closure.now.known }
     ensures needed { OnOk result (AreNeeded closure.now entries.now goal ranks.new) }
+    ensures once { OnOk result (StandOnce ranks.new) }
 {
     ranks.cut(0);
     need_number(&closure.known, entries, ranks, closure.known.at(goal))?;

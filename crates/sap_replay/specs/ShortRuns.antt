@@ -20,7 +20,7 @@ pub record IsAcceptedShort (z : List ℕ) (run : List SStep) : Type 0 where
   pub read : IsShortRunText z (Ok run)
 
 -- the bytes are refused for this cause: they are too many; else they are no short run; else a step of the short run is the first that
--- the file's process can't follow, whatever lines by which the adversary makes terms stand before it
+-- the file's process can't follow within the limit on terms, whatever lines by which the adversary makes terms stand before it
 pub data IsShortRefusedWith (f : FileContent) (z : List ℕ) : List ℕ → Type 0 where
   too_long : most_run_bytes < length z
       → IsShortRefusedWith f z (run_refusal_text refusal.TooLong)

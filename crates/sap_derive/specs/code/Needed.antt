@@ -1,7 +1,7 @@
 -- What a derivation needs of what is known, and the lines that it has.
 use Rattle.std.specs.Prelude.{◌≡◌, ◌<◌, ◌⊎◌, ℕ, List, [], ◌∷◌, ◌++◌, length, slice_get, Some}
 use Rattle.sap_derive.specs.code.Lines.{premises_of}
-use Rattle.sap_derive.specs.code.Listed.{IsListed}
+use Rattle.sap_derive.specs.code.Listed.{IsListed, StandOnce}
 use Rattle.sap_derive.specs.declared.clause.Clause.{Clause}
 use Rattle.sap_derive.specs.declared.closure.Closure.{Closure}
 use Rattle.sap_derive.specs.declared.line.Line.{Line}
@@ -60,12 +60,13 @@ pub record AreNeeded (s : Closure) (entries : List ℕ) (goal : ℕ) (ranks : Li
   pub needed : (rank : ℕ) → IsListed ranks rank → IsNeededNew s entries goal rank
   pub closed : (rank j n : ℕ) → IsListed ranks rank → StandsOn s entries rank j → slice_get s.known j ≡ Some n → IsCovered s.known entries ranks n
 
--- so they are, as far as what the first of them, so many, stand on
+-- so they are, each once, as far as what the first of them, so many, stand on
 pub record AreNeededTo (s : Closure) (entries : List ℕ) (goal : ℕ) (ranks : List ℕ) (count : ℕ) : Type 0 where
   pub itself : (n : ℕ) → slice_get s.known goal ≡ Some n → IsCovered s.known entries ranks n
   pub needed : (rank : ℕ) → IsListed ranks rank → IsNeededNew s entries goal rank
   pub closed : (k rank j n : ℕ) → k < count → slice_get ranks k ≡ Some rank → StandsOn s entries rank j → slice_get s.known j ≡ Some n
       → IsCovered s.known entries ranks n
+  pub once : StandOnce ranks
 
 -- at these places of the list stand these numbers
 pub record ArePlaces (items numbers places : List ℕ) : Type 0 where

@@ -25,6 +25,7 @@ loop-n-preserved c =
     record {
       kept = λ k j e. c.need_number.ensures.kept k j (i.kept k j e);
       only = λ j l. elim (c.need_number.ensures.only j l) [ inl x ↦ i.only j x | inr x ↦ inr (c.loop-n.n-index, here, at, x) ];
+      once = λ h. c.need_number.ensures.once (i.once h);
       done = λ k n l e.
           elim (same-or_not k c.loop-n.n-index) [
             | inl q ↦ let there = subst (λ j. slice_get ns j ≡ Some n) q e in
