@@ -15,8 +15,8 @@ mod short_laws;
 mod step_text;
 
 pub use laws::{
-    limits_by_hand, named_steps_can_be_written, one_run, printed_runs_are_read, read_runs_are_read_again,
-    read_runs_can_be_written, some_run, writable_by_hand,
+    limits_by_hand, named_steps_can_be_written, one_run, printed_runs_are_read,
+    read_runs_are_read_again, read_runs_can_be_written, some_run, writable_by_hand,
 };
 pub use limits::{MOST_PROCESS_STEPS, MOST_RULE_STEPS};
 pub use print::{print_prun, print_rrun};
