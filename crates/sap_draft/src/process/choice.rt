@@ -27,7 +27,6 @@ fn read_up_to<'a>(
     if starts(bytes, tokens, word) {
         Ok(Some((choice, beyond(1, tokens))))
     } else {
-        drop(choice);
         Ok(None)
     }
 }

@@ -42,22 +42,17 @@ fn read_second_branch<'a>(
     ensures within { IfOk result (λ o. IfSome o (λ r. (1 ≤ r.0.levels)
         × (r.0.levels ≤ depth + 1))) }
 {
-    match read_seq(alloc, sig, bytes, depth, tokens) {
-        Err(mem) => {
-            drop(choice);
-            drop(yes);
-            Err(mem)
-        }
-        Ok(None) => {
-            drop(choice);
-            drop(yes);
-            Ok(None)
-        }
-        Ok(Some((read, rest))) => {
-            let Measured {
-                source: no,
-                levels: more,
-            } = read;
+    match read_seq(alloc, sig, bytes, depth, tokens)? {
+        None => Ok(None),
+        Some(
+            (
+                Measured {
+                    source: no,
+                    levels: more,
+                },
+                rest,
+            ),
+        ) => {
             let process = choosing(alloc, choice, yes, no)?;
             Ok(Some((
                 Measured {
@@ -86,20 +81,17 @@ fn read_branches<'a>(
     ensures within { IfOk result (λ o. IfSome o (λ r. (1 ≤ r.0.levels)
         × (r.0.levels ≤ depth + 1))) }
 {
-    match read_seq(alloc, sig, bytes, depth, tokens) {
-        Err(mem) => {
-            drop(choice);
-            Err(mem)
-        }
-        Ok(None) => {
-            drop(choice);
-            Ok(None)
-        }
-        Ok(Some((read, rest))) => {
-            let Measured {
-                source: yes,
-                levels,
-            } = read;
+    match read_seq(alloc, sig, bytes, depth, tokens)? {
+        None => Ok(None),
+        Some(
+            (
+                Measured {
+                    source: yes,
+                    levels,
+                },
+                rest,
+            ),
+        ) => {
             if starts(bytes, rest, "else") {
                 let rest = beyond(1, rest);
                 read_second_branch(alloc, sig, bytes, depth, choice, yes, levels, rest)
@@ -177,20 +169,17 @@ fn read_on<'a>(
         × (r.0.levels ≤ depth + 1))) }
 {
     if starts(bytes, tokens, ";") {
-        match read_seq(alloc, sig, bytes, depth, beyond(1, tokens)) {
-            Err(mem) => {
-                drop(first);
-                Err(mem)
-            }
-            Ok(None) => {
-                drop(first);
-                Ok(None)
-            }
-            Ok(Some((read, rest))) => {
-                let Measured {
-                    source: then,
-                    levels,
-                } = read;
+        match read_seq(alloc, sig, bytes, depth, beyond(1, tokens))? {
+            None => Ok(None),
+            Some(
+                (
+                    Measured {
+                        source: then,
+                        levels,
+                    },
+                    rest,
+                ),
+            ) => {
                 let process = boxed(alloc, Source::Act(first, then))?;
                 Ok(Some((
                     Measured {
@@ -211,7 +200,6 @@ fn read_on<'a>(
             tokens,
         )))
     } else {
-        drop(first);
         Ok(None)
     }
 }
@@ -276,7 +264,6 @@ fn read_enclosed<'a>(
                     beyond(1, rest),
                 )))
             } else {
-                drop(process);
                 Ok(None)
             }
         }
@@ -379,20 +366,17 @@ fn read_beside<'a>(
     ensures within { IfOk result (λ o. IfSome o (λ r. (1 ≤ r.0.levels)
         × (r.0.levels ≤ depth + 1))) }
 {
-    match read_par(alloc, sig, bytes, depth, tokens) {
-        Err(mem) => {
-            drop(left);
-            Err(mem)
-        }
-        Ok(None) => {
-            drop(left);
-            Ok(None)
-        }
-        Ok(Some((read, rest))) => {
-            let Measured {
-                source: right,
-                levels: more,
-            } = read;
+    match read_par(alloc, sig, bytes, depth, tokens)? {
+        None => Ok(None),
+        Some(
+            (
+                Measured {
+                    source: right,
+                    levels: more,
+                },
+                rest,
+            ),
+        ) => {
             let both = boxed(alloc, Source::Par(left, right))?;
             Ok(Some((
                 Measured {
@@ -445,7 +429,6 @@ pub fn read_par<'a>(
             } else if levels < depth {
                 read_beside(alloc, sig, bytes, depth - 1, left, levels, beyond(1, rest))
             } else {
-                drop(left);
                 Ok(None)
             }
         }
