@@ -22,5 +22,6 @@ returns g c =
       one_cause = c.refused_runs_have_one_cause.ensures;
       unrefused = c.legal_runs_are_not_refused.ensures;
       filled = c.filled_runs_are_legal.ensures.small_runs;
+      sparing = c.filled_runs_are_legal.ensures.sparing;
     })
     _ _ c.run.ensures
