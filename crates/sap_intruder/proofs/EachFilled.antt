@@ -11,12 +11,13 @@ use Rattle.sap_runs.specs.declared.process_step.PStep.{PStep}
 use Rattle.sap_runs.specs.declared.short_step.SStep.{SStep}
 use Rattle.sap_calc.specs.Running.{configuration}
 use Rattle.sap_deduce.specs.Entries.{Entry, terms_of}
-use Rattle.sap_intruder.specs.FilledRuns.{FilledRunsAreLegal, IsFilled, IsFilledRun, starts}
+use Rattle.sap_intruder.specs.FilledRuns.{FilledRunsAreLegal, IsFilled, IsSparingRun, begins}
 use Rattle.sap_intruder.specs.OneAnswer.{IsFirstRefusedOfShort}
 use Rattle.sap_intruder.specs.Refusals.{IsShortRefused}
 use Rattle.sap_intruder.specs.code.Filled.{HasFilled, IsFilledOn, IsFilledTo, IsRefusedAs, IsTied, entries_of}
 use Rattle.sap_intruder.specs.declared.fill_fault.FillFault.{FillFault}
 use Rattle.sap_intruder.specs.declared.filling.Filling.{Filling}
+use Rattle.sap_intruder.proofs.Sparing.{sparing_runs_fill}
 
 -- the item with this number, between those before it and those behind it
 cut_got : {A : Type 0} (xs : List A) (k : ℕ) (x : A) → slice_get xs k ≡ Some x → xs ≡ take k xs ++ x ∷ drop (k + 1) xs
@@ -41,9 +42,9 @@ filled_none g p a tied sig known conf lines = record {
   trace = [];
   marks = [];
   run =
-      subst (λ (ls : List PStep). IsFilledRun g HasFewNodes p [] ls (configuration a.config) (entries_of a) [] []) (sym lines)
-      (subst (λ (c : Config). IsFilledRun g HasFewNodes p [] [] c (entries_of a) [] []) (sym conf)
-      (subst (λ (es : List Entry). IsFilledRun g HasFewNodes p [] [] (initial p) (terms_of es) [] []) (sym known) starts));
+      subst (λ (ls : List PStep). IsSparingRun g p [] ls (configuration a.config) (entries_of a) [] []) (sym lines)
+      (subst (λ (c : Config). IsSparingRun g p [] [] c (entries_of a) [] []) (sym conf)
+      (subst (λ (es : List Entry). IsSparingRun g p [] [] (initial p) (terms_of es) [] []) (sym known) begins));
 }
 
 -- one step more
@@ -73,7 +74,7 @@ refused_first legal g p run k n s fault a at h is = record {
   config = configuration a.config;
   trace = h.trace;
   marks = h.marks;
-  legal = (legal g p (take k run) a.lines (configuration a.config) (entries_of a) h.trace h.marks h.run).1;
+  legal = (legal g p (take k run) a.lines (configuration a.config) (entries_of a) h.trace h.marks (sparing_runs_fill g p (take k run) a.lines (configuration a.config) (entries_of a) h.trace h.marks h.run)).1;
   refused = subst (λ (x : Sig). IsShortRefused x (configuration a.config) s fault) h.sig is.refused;
 }
 

@@ -16,7 +16,7 @@ use Rattle.sap_terms.proofs.PlainLaws.Lists.{take_got}
 use Rattle.sap_rewrite.specs.Laws.{FormIsOne}
 use Rattle.sap_deduce.specs.Deducing.{EntriesGiveTheSame}
 use Rattle.sap_deduce.specs.Entries.{terms_of, AreEntered}
-use Rattle.sap_derive.specs.Found.{IsFoundIn}
+use Rattle.sap_derive.specs.Found.{IsFoundBy, IsFoundIn}
 use Rattle.sap_derive.specs.Lines.{Give, no_lines, one_more, IsLine, writes, applies}
 use Rattle.sap_derive.specs.Searched.{Searched}
 use Rattle.sap_derive.specs.declared.derivation.Derivation.{Derivation}
@@ -32,10 +32,11 @@ use Rattle.sap_runs.specs.declared.process_step.PStep.TheVariants as line
 use Rattle.sap_runs.specs.declared.short_step.SStep.{SStep}
 use Rattle.sap_lines.specs.Lines.{IsProcessLine}
 use Rattle.sap_calc.specs.Running.{Running, configuration}
-use Rattle.sap_intruder.specs.FilledRuns.{IsFilledRun, finds, IsLeftOut}
-use Rattle.sap_intruder.specs.code.Filled.{AddsOne, AreCarriedOut, AreLeading, IsCarriedOut, IsGrown, IsLooselyTied, IsTied, IsWritten, HasEntered, HasFilled, entries_of, line_step}
+use Rattle.sap_intruder.specs.FilledRuns.{line_step}
+use Rattle.sap_intruder.specs.code.Filled.{AddsOne, AreCarriedOut, AreLeading, IsGrown, IsLooselyTied, IsTied, IsWritten, HasEntered, entries_of}
 use Rattle.sap_intruder.specs.declared.filling.Filling.{Filling}
 use Rattle.sap_intruder.proofs.OneRun.{last_same, pushed}
+use Rattle.sap_intruder.proofs.Sparing.{mapped_more}
 
 -- ---- lists
 
@@ -135,19 +136,15 @@ line_does : FormIsOne → (g : Sig) (W : Tree → Type 0) (c d : Config) (es fs 
 line_does one g W c d es fs inner label _ _ (writes a) h = public_does g W c d es fs inner label a h
 line_does one g W c d es fs inner label _ _ (applies f ks us u p a at form size) h = apply_does one g W c d es fs inner label f ks us u at form h
 
-line_left_out : (l : Line) → IsLeftOut (line_step l)
-line_left_out (derived.Public a) = tt
-line_left_out (derived.Apply f ks) = tt
-
 -- the last of lines that are possible in turn
-record LastGiven (g : Sig) (ts us : List Tree) (xs : List Line) (l : Line) : Type 0 where
-  before : List Tree
-  term : Tree
-  are : us ≡ before ++ term ∷ []
-  give : Give g ts xs before
-  last : IsLine g (ts ++ before) l term
+pub record LastGiven (g : Sig) (ts us : List Tree) (xs : List Line) (l : Line) : Type 0 where
+  pub before : List Tree
+  pub term : Tree
+  pub are : us ≡ before ++ term ∷ []
+  pub give : Give g ts xs before
+  pub last : IsLine g (ts ++ before) l term
 
-last_given : (g : Sig) (ts us : List Tree) (ls xs : List Line) (l : Line) → Give g ts ls us → ls ≡ xs ++ l ∷ [] → LastGiven g ts us xs l
+pub last_given : (g : Sig) (ts us : List Tree) (ls xs : List Line) (l : Line) → Give g ts ls us → ls ≡ xs ++ l ∷ [] → LastGiven g ts us xs l
 last_given g ts _ _ xs l no_lines e = absurd (pushed xs l (sym e))
 last_given g ts _ _ xs l (one_more ls us m u h s) e =
     let is = last_same ls xs m l e in
@@ -159,7 +156,7 @@ last_given g ts _ _ xs l (one_more ls us m u h s) e =
       last = subst (λ (k : Line). IsLine g (ts ++ us) k u) is.1 s;
     }
 
-none_given : (g : Sig) (ts us : List Tree) (ls : List Line) → Give g ts ls us → ls ≡ [] → us ≡ []
+pub none_given : (g : Sig) (ts us : List Tree) (ls : List Line) → Give g ts ls us → ls ≡ [] → us ≡ []
 none_given g ts _ _ no_lines e = refl
 none_given g ts _ _ (one_more ls us m u h s) e = absurd (pushed ls m e)
 
@@ -172,46 +169,31 @@ lines_count g ts _ _ (one_more ls us m u h s) =
     a ∙ (ap (λ n. n + 1) e ∙ sym b)
 
 -- nothing has come
-pub grown_not : (a : Filling) → IsGrown a a
-grown_not a = record { sig = refl; config = refl; run = λ p ss tr ms h. h }
+pub grown_not : (a : Filling) → IsGrown a a [] []
+grown_not a = record { sig = refl; config = refl; lines_are = sym (append-nil a.lines); entries = sym (append-nil (entries_of a)) }
 
 pub carried_none : (a : Filling) → AreCarriedOut a a []
 carried_none a = record {
   search = refl;
   count = refl;
-  out = λ given h.
-      let none : given ≡ [] = none_given a.config.sig (entries_of a) given [] h refl in
-      record { grown = grown_not a; entries = sym (append-nil (entries_of a)) ∙ ap (λ zs. entries_of a ++ zs) (sym none) };
+  out = λ given h. subst (λ (us : List Tree). IsGrown a a [] us) (sym (none_given a.config.sig (entries_of a) given [] h refl)) (grown_not a);
 }
 
--- one more line was done
-module _ (one : FormIsOne) (a b d : Filling) (l : Line) (w : IsWritten b d (line_step l)) where
-  more_grown : (us : List Tree) (u : Tree) → IsCarriedOut a b us → IsLine a.config.sig (entries_of a ++ us) l u → IsCarriedOut a d (us ++ u ∷ [])
-  more_grown us u out is =
-      let there : IsLine b.config.sig (entries_of b) l u =
-      subst (λ (g : Sig). IsLine g (entries_of b) l u) (sym out.grown.sig) (subst (λ (es : List Tree). IsLine a.config.sig es l u) (sym out.entries) is) in
-      let does = line_does one b.config.sig HasFewNodes (configuration b.config) (configuration d.config) (entries_of b) (entries_of d) w.done.inner w.label l u there w.done.line in
-      let silent : IsProcessLine b.config.sig HasFewNodes (configuration b.config) (entries_of b) (line_step l) [] [] (configuration b.config) (entries_of d) =
-      subst (λ (c : Config). IsProcessLine b.config.sig HasFewNodes (configuration b.config) (entries_of b) (line_step l) [] [] c (entries_of d)) does.stays
-      (subst (λ (fs : List Fact). IsProcessLine b.config.sig HasFewNodes (configuration b.config) (entries_of b) (line_step l) [] fs (configuration d.config) (entries_of d)) does.shows
-      (subst (λ (is : List InnerAction). IsProcessLine b.config.sig HasFewNodes (configuration b.config) (entries_of b) (line_step l) is w.label (configuration d.config) (entries_of d)) does.inside w.done.line)) in
-      record {
-        grown = record {
-          sig = w.done.sig ∙ out.grown.sig;
-          config = does.stays ∙ out.grown.config;
-          run = λ p ss tr ms h. runs p ss tr ms silent does.stays (out.grown.run p ss tr ms h);
-        };
-        entries = does.enters ∙ (ap (λ es. es ++ u ∷ []) out.entries ∙ append_assoc (entries_of a) us (u ∷ []));
-      }
-    where
-      runs : (p : Proc) (ss : List SStep) (tr : Trace) (ms : List Mark)
-          → IsProcessLine b.config.sig HasFewNodes (configuration b.config) (entries_of b) (line_step l) [] [] (configuration b.config) (entries_of d)
-          → configuration d.config ≡ configuration b.config
-          → HasFilled a.config.sig p ss b tr ms → HasFilled a.config.sig p ss d tr ms
-      runs p ss tr ms silent stays h =
-          let line_is = subst (λ (g : Sig). IsProcessLine g HasFewNodes (configuration b.config) (entries_of b) (line_step l) [] [] (configuration b.config) (entries_of d)) out.grown.sig silent in
-          subst (λ (ls : List PStep). IsFilledRun a.config.sig HasFewNodes p ss ls (configuration d.config) (entries_of d) tr ms) (sym w.lines)
-          (subst (λ (c : Config). IsFilledRun a.config.sig HasFewNodes p ss (b.lines ++ line_step l ∷ []) c (entries_of d) tr ms) (sym stays) (finds (line_step l) h (line_left_out l) line_is))
+-- one line more
+more_grown : FormIsOne → (a b d : Filling) (l : Line) → IsWritten b d (line_step l) → (ls : List Line) (us : List Tree) (u : Tree) → IsGrown a b ls us → IsLine a.config.sig (entries_of a ++ us) l u
+    → IsGrown a d (ls ++ l ∷ []) (us ++ u ∷ [])
+more_grown one a b d l w ls us u out is =
+    let there : IsLine b.config.sig (entries_of b) l u =
+    subst (λ (g : Sig). IsLine g (entries_of b) l u) (sym out.sig) (subst (λ (es : List Tree). IsLine a.config.sig es l u) (sym out.entries) is) in
+    let does = line_does one b.config.sig HasFewNodes (configuration b.config) (configuration d.config) (entries_of b) (entries_of d) w.done.inner w.label l u there w.done.line in
+    record {
+      sig = w.done.sig ∙ out.sig;
+      config = does.stays ∙ out.config;
+      lines_are = w.lines
+          ∙ (ap (λ zs. zs ++ line_step l ∷ []) out.lines_are
+          ∙ (append_assoc a.lines (map line_step ls) (line_step l ∷ []) ∙ ap (λ zs. a.lines ++ zs) (sym (mapped_more line_step ls l))));
+      entries = does.enters ∙ (ap (λ es. es ++ u ∷ []) out.entries ∙ append_assoc (entries_of a) us (u ∷ []));
+    }
 
 -- one more line of these
 pub carried_more : FormIsOne → (a b d : Filling) (lines : List Line) (k : ℕ) (l : Line) → slice_get lines k ≡ Some l → AreCarriedOut a b (take k lines) → IsWritten b d (line_step l)
@@ -221,8 +203,9 @@ carried_more one a b d lines k l at h w = record {
   count = w.count ∙ h.count;
   out = λ given gives.
       let cut = last_given a.config.sig (entries_of a) given (take (k + 1) lines) (take k lines) l gives (take_got lines k l at) in
-      let more = more_grown one a b d l w cut.before cut.term (h.out cut.before cut.give) cut.last in
-      subst (λ (us : List Tree). IsCarriedOut a d us) (sym cut.are) more;
+      let more = more_grown one a b d l w (take k lines) cut.before cut.term (h.out cut.before cut.give) cut.last in
+      subst (λ (us : List Tree). IsGrown a d (take (k + 1) lines) us) (sym cut.are)
+      (subst (λ (ls : List Line). IsGrown a d ls (cut.before ++ cut.term ∷ [])) (sym (take_got lines k l at)) more);
 }
 
 -- ---- what the adversary can give
@@ -259,24 +242,20 @@ pub record IsCounted (b d : Filling) (more : ℕ) : Type 0 where
   pub search : d.search ≡ b.search
   pub count : d.count ≡ b.count + more
 
-grown_before : (a b d : Filling) (s : Searched) → IsSearched a b s → IsGrown b d → IsGrown a d
-grown_before a b d s is h = record {
+grown_before : (a b d : Filling) (s : Searched) (ls : List Line) (us : List Tree) → IsSearched a b s → IsGrown b d ls us → IsGrown a d ls us
+grown_before a b d s ls us is h = record {
   sig = h.sig ∙ ap (λ r. r.sig) is.config;
   config = h.config ∙ ap configuration is.config;
-  run = λ p ss tr ms filled.
-      let there : HasFilled a.config.sig p ss b tr ms =
-      subst (λ (r : Running). IsFilledRun a.config.sig HasFewNodes p ss b.lines (configuration r) (terms_of r.known) tr ms) (sym is.config)
-      (subst (λ (ls : List PStep). IsFilledRun a.config.sig HasFewNodes p ss ls (configuration a.config) (entries_of a) tr ms) (sym is.lines) filled) in
-      subst (λ (g : Sig). HasFilled g p ss d tr ms) (ap (λ r. r.sig) is.config) (h.run p ss tr ms (subst (λ (g : Sig). HasFilled g p ss b tr ms) (sym (ap (λ r. r.sig) is.config)) there));
+  lines_are = h.lines_are ∙ ap (λ zs. zs ++ map line_step ls) is.lines;
+  entries = h.entries ∙ ap (λ (r : Running). terms_of r.known ++ us) is.config;
 }
 
-grown_behind : (a b d : Filling) (n : ℕ) → IsCounted b d n → IsGrown a b → IsGrown a d
-grown_behind a b d n is h = record {
+grown_behind : (a b d : Filling) (n : ℕ) (ls : List Line) (us : List Tree) → IsCounted b d n → IsGrown a b ls us → IsGrown a d ls us
+grown_behind a b d n ls us is h = record {
   sig = ap (λ r. r.sig) is.config ∙ h.sig;
   config = ap configuration is.config ∙ h.config;
-  run = λ p ss tr ms filled.
-      subst (λ (r : Running). IsFilledRun a.config.sig HasFewNodes p ss d.lines (configuration r) (terms_of r.known) tr ms) (sym is.config)
-      (subst (λ (ls : List PStep). IsFilledRun a.config.sig HasFewNodes p ss ls (configuration b.config) (entries_of b) tr ms) (sym is.lines) (h.run p ss tr ms filled));
+  lines_are = is.lines ∙ h.lines_are;
+  entries = ap (λ (r : Running). terms_of r.known) is.config ∙ h.entries;
 }
 
 -- the lines that were found are possible behind the entries
@@ -296,10 +275,8 @@ found_entered same_given a b c d x found s tied is searched carried counted norm
     let config_is : a.config ≡ b.config = sym searched.config in
     let behind : Give b.config.sig (entries_of b) found.lines is.given = subst (λ (r : Running). Give r.sig (terms_of r.known) found.lines is.given) config_is lines_given in
     let out = carried.out is.given behind in
-    let grown_here = grown_before a b c s searched out.grown in
-    let grown = grown_behind a c d (length found.lines) counted grown_here in
-    let entries_are : entries_of d ≡ es ++ is.given =
-    ap (λ (r : Running). terms_of r.known) counted.config ∙ (out.entries ∙ ap (λ (r : Running). terms_of r.known ++ is.given) searched.config) in
+    let grown = grown_behind a c d (length found.lines) found.lines is.given counted (grown_before a b c s found.lines is.given searched out) in
+    let entries_are : entries_of d ≡ es ++ is.given = grown.entries in
     let search_is : d.search ≡ s = counted.search ∙ (carried.search ∙ searched.search) in
     let entries_too : d.search.entries ≡ es ++ is.given = ap (λ (z : Searched). z.entries) search_is ∙ (is.entries ∙ ap (λ ts. ts ++ is.given) tied.entries) in
     let at : slice_get (entries_of d) found.entry ≡ Some x =
@@ -308,6 +285,9 @@ found_entered same_given a b c d x found s tied is searched carried counted norm
     let gives = entry_given same_given d.config found.entry x entered normal_there at in
     let numbers = lines_count g es is.given found.lines lines_given in
     record {
+      derivation = found;
+      given = is.given;
+      found = subst (λ (h : Sig). IsFoundBy h es x found is.given) tied.sig (subst (λ (ts : List Tree). IsFoundBy a.search.sig ts x found is.given) tied.entries is.found);
       grown = grown;
       tied = record {
         sig = ap (λ (z : Searched). z.sig) search_is ∙ (is.sig ∙ (tied.sig ∙ sym grown.sig));

@@ -10,3 +10,8 @@ pub mod Entering
 pub mod Possible
 pub mod StepsFilled
 pub mod EachFilled
+pub mod Sparing
+pub mod Named
+pub mod NeverFilled
+pub mod SparingByHand
+pub mod StepsByHand

@@ -61,12 +61,12 @@ last_of [] = nothing refl
 last_of (x ∷ xs) = elim (last_of xs) [ nothing e ↦ behind [] x (ap (λ zs. x ∷ zs) e) | behind ys y e ↦ behind (x ∷ ys) y (ap (λ zs. x ∷ zs) e) ]
 
 -- two cuts of one list
-data Cuts {A : Type 0} (xs ys : List A) (x y : A) : Type 0 where
+pub data Cuts {A : Type 0} (xs ys : List A) (x y : A) : Type 0 where
   one_cut : xs ≡ ys → x ≡ y → Cuts xs ys x y
   first_before : (rest : List A) → ys ≡ xs ++ x ∷ rest → Cuts xs ys x y
   second_before : (rest : List A) → xs ≡ ys ++ y ∷ rest → Cuts xs ys x y
 
-cuts : {A : Type 0} (xs ys : List A) (x y : A) (us vs : List A) → xs ++ x ∷ us ≡ ys ++ y ∷ vs → Cuts xs ys x y
+pub cuts : {A : Type 0} (xs ys : List A) (x y : A) (us vs : List A) → xs ++ x ∷ us ≡ ys ++ y ∷ vs → Cuts xs ys x y
 cuts [] [] x y us vs e = one_cut refl (let s : x ≡ y = cc in s)
 cuts [] (z ∷ ys) x y us vs e = first_before ys (let s : z ≡ x = cc in ap (λ w. w ∷ ys) s)
 cuts (w ∷ xs) [] x y us vs e = second_before xs (let s : w ≡ y = cc in ap (λ z. z ∷ xs) s)

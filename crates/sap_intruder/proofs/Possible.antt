@@ -14,7 +14,8 @@ use Rattle.sap_runs.specs.declared.process_step.PStep.TheVariants as line
 use Rattle.sap_lines.specs.Faults.{IsRefused}
 use Rattle.sap_lines.specs.declared.fault.PFault.{PFault}
 use Rattle.sap_lines.specs.declared.fault.PFault.TheVariants as fault
-use Rattle.sap_intruder.specs.code.Filled.{AreCarriedOut, IsPossible, AreLeading, entries_of, line_step}
+use Rattle.sap_intruder.specs.code.Filled.{AreCarriedOut, IsPossible, AreLeading, entries_of}
+use Rattle.sap_intruder.specs.FilledRuns.{line_step}
 use Rattle.sap_intruder.specs.declared.filling.Filling.{Filling}
 use Rattle.sap_intruder.proofs.Entering.{some_one}
 
@@ -101,4 +102,4 @@ next_possible a b lines k l leads at carried =
     let next = given_before a.config.sig (entries_of a) leads.0 lines k l leads.1 at in
     let out = carried.out next.before next.give in
     let there : IsLine a.config.sig (entries_of b) l next.term = subst (λ (es : List Tree). IsLine a.config.sig es l next.term) (sym out.entries) next.is in
-    (next.term, subst (λ (g : Sig). IsLine g (entries_of b) l next.term) (sym out.grown.sig) there)
+    (next.term, subst (λ (g : Sig). IsLine g (entries_of b) l next.term) (sym out.sig) there)

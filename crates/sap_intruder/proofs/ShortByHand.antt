@@ -27,7 +27,7 @@ use Rattle.sap_intruder.specs.ShortRuns.{IsLegalShortRun}
 use Rattle.sap_intruder.specs.declared.fill_fault.FillFault.TheVariants as fill
 
 module _ (leaves : LeavesAreNormal) where
-  own_form : IsNormalForm (equations bare) a a
+  pub own_form : IsNormalForm (equations bare) a a
   own_form = record { equal = same; normal = leaves.of_public_name (equations bare) (codes "a") }
 
   given_a : IsGiven bare (initial whole.nil) (term a) a
@@ -50,14 +50,14 @@ module _ (leaves : LeavesAreNormal) where
       (knowing (record { term = a; entry = refl; over = tt; form = own_form })) (IsProcessLine.knows 0 a refl)
 
 -- nothing is deduced by one step from nothing but public names, where no symbol is held
-no_fresh : (ts : List Tree) (t : Tree) (k : ℕ) → IsDerived bare [] [] ts t → t ≡ fresh k → ⊥
+pub no_fresh : (ts : List Tree) (t : Tree) (k : ℕ) → IsDerived bare [] [] ts t → t ≡ fresh k → ⊥
 no_fresh ts t k (a_public n e) is = cc
 no_fresh ts t k (a_name n m e) is = omega (arith, m.1)
 no_fresh ts t k (given m) is = omega (arith, m.1)
 no_fresh ts t k (applied f us free arity all form) is = absurd free
 
 module _ (leaves : LeavesAreNormal) (one : FormIsOne) where
-  fresh_form : IsNormalForm (equations bare) (fresh 1) (fresh 1)
+  pub fresh_form : IsNormalForm (equations bare) (fresh 1) (fresh 1)
   fresh_form = record { equal = same; normal = leaves.of_fresh_name (equations bare) 1 }
 
   not_given : CanGive bare (initial whole.nil) (fresh 1) → ⊥

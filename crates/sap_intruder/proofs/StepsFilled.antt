@@ -1,5 +1,5 @@
 -- One step of a short run, filled or refused.
-use Rattle.std.proofs.Common.{◌≡◌, ℕ, Bool, List, [], ◌∷◌, ◌++◌, Some, None, length, slice_get, refl, sym, ap, subst, ◌∙◌}
+use Rattle.std.proofs.Common.{◌≡◌, ℕ, Bool, List, [], ◌∷◌, ◌++◌, append_assoc, Some, None, length, map, slice_get, refl, sym, ap, subst, ◌∙◌}
 use Rattle.sap_terms.specs.Equations.{equations}
 use Rattle.sap_terms.specs.Message.{IsOver}
 use Rattle.sap_terms.specs.Normal.{IsNormalForm}
@@ -8,6 +8,7 @@ use Rattle.sap_terms.specs.Trace.{shown}
 use Rattle.sap_terms.specs.Tree.{Tree}
 use Rattle.sap_terms.specs.View.{tree}
 use Rattle.sap_terms.specs.declared.term.Term.{Term}
+use Rattle.sap_derive.specs.declared.line.Line.{Line}
 use Rattle.sap_rewrite.specs.Large.{itself, here}
 use Rattle.sap_rewrite.specs.Laws.{FormIsOne}
 use Rattle.sap_process.specs.Action as action
@@ -22,14 +23,15 @@ use Rattle.sap_runs.specs.declared.short_step.SStep.{SStep}
 use Rattle.sap_runs.specs.declared.short_step.SStep.TheVariants as short
 use Rattle.sap_lines.specs.Channels.{SendsOn, HasNoChannel, ChannelsHaveOneAnswer}
 use Rattle.sap_lines.specs.Faults.{IsRefused, IsUnfit, not_running, other_form, has_form}
+use Rattle.sap_lines.specs.Lines.{IsProcessLine}
 use Rattle.sap_lines.specs.OtherEntries.{ask_nothing, send_on, take_in, LinesThatAskTheSameAreRefusedTheSame}
 use Rattle.sap_lines.specs.declared.fault.PFault.{PFault}
 use Rattle.sap_lines.specs.declared.fault.PFault.TheVariants as fault
 use Rattle.sap_calc.specs.Running.{configuration, IsDenied}
-use Rattle.sap_intruder.specs.FilledRuns.{Cites, Fills, input, sending, knowing, IsFilledRun, follows}
+use Rattle.sap_intruder.specs.FilledRuns.{Cites, Fills, input, sending, knowing, AsksFor, to_take, to_send, to_show, AreFoundFor, none_found, all_found, line_step, IsSparingRun, goes_on}
 use Rattle.sap_intruder.specs.FilledRuns.{same as as_it_is}
 use Rattle.sap_intruder.specs.Refusals.{IsNotGiven, IsShortRefused, line_refused, unfit_taker, input_not_given, input_refused, no_channel, known_not_given}
-use Rattle.sap_intruder.specs.code.Filled.{HasEntered, HasFilled, HasGiven, IsBlamed, out_of_memory, other_fault, IsBlamedFor, IsFilledOn, IsFollowed, IsGrown, IsNoEntry, IsTaker, IsTied, IsUnfitTaker, OrMem, entries_of}
+use Rattle.sap_intruder.specs.code.Filled.{HasEntered, HasGiven, IsBlamed, out_of_memory, other_fault, IsBlamedFor, IsFilledOn, IsFollowed, IsGrown, IsNoEntry, IsTaker, IsTied, IsUnfitTaker, OrMem, entries_of}
 use Rattle.sap_intruder.specs.declared.fill_fault.FillFault.{FillFault}
 use Rattle.sap_intruder.specs.declared.fill_fault.FillFault.TheVariants as fill
 use Rattle.sap_intruder.specs.declared.filling.Filling.{Filling}
@@ -54,34 +56,42 @@ blamed_for a step e u denied is = blame (IsBlamedFor a step) e u is (λ other. r
 
 -- ---- a step and its own line
 
--- lines that a short run leaves out, and then the step's own line
-pub filled_on : (a b d : Filling) (s : SStep) (step : PStep) → IsGrown a b → IsFollowed b d step → Fills b.config.sig (entries_of b) s step → IsFilledOn a d s
-filled_on a b d s step grown h fills = record {
+-- lines that are found for a step, and then its own line
+pub filled_on : (a b d : Filling) (s : SStep) (step : PStep) (found : List Line) (given : List Tree) → IsGrown a b found given → AreFoundFor a.config.sig (configuration a.config) (entries_of a) s found given
+    → IsFollowed b d step → Fills b.config.sig (entries_of b) s step → IsFilledOn a d s
+filled_on a b d s step found given grown are h fills = record {
   sig = h.done.sig ∙ grown.sig;
   tied = h.tied;
   run = λ p ss tr ms filled.
-      let there : HasFilled b.config.sig p ss b tr ms = subst (λ (g : Sig). HasFilled g p ss b tr ms) (sym grown.sig) (grown.run p ss tr ms filled) in
-      let further : IsFilledRun b.config.sig HasFewNodes p (ss ++ s ∷ []) (b.lines ++ step ∷ []) (configuration d.config) (entries_of d) (tr ++ shown h.label) (ms ++ marks_of h.done.inner h.label) =
-      follows s step h.done.inner h.label there fills h.done.line in
-      let whole : HasFilled b.config.sig p (ss ++ s ∷ []) d (tr ++ shown h.label) (ms ++ marks_of h.done.inner h.label) =
-      subst (λ (ls : List PStep). IsFilledRun b.config.sig HasFewNodes p (ss ++ s ∷ []) ls (configuration d.config) (entries_of d) (tr ++ shown h.label) (ms ++ marks_of h.done.inner h.label)) (sym h.lines) further in
+      let g : Sig = a.config.sig in
+      let es : List Tree = entries_of a ++ given in
+      let fills_here : Fills g es s step = subst (λ (ts : List Tree). Fills g ts s step) grown.entries (subst (λ (x : Sig). Fills x (entries_of b) s step) grown.sig fills) in
+      let line_here : IsProcessLine g HasFewNodes (configuration a.config) es step h.done.inner h.label (configuration d.config) (entries_of d) =
+      subst (λ (c : Config). IsProcessLine g HasFewNodes c es step h.done.inner h.label (configuration d.config) (entries_of d)) grown.config
+      (subst (λ (ts : List Tree). IsProcessLine g HasFewNodes (configuration b.config) ts step h.done.inner h.label (configuration d.config) (entries_of d)) grown.entries
+      (subst (λ (x : Sig). IsProcessLine x HasFewNodes (configuration b.config) (entries_of b) step h.done.inner h.label (configuration d.config) (entries_of d)) grown.sig h.done.line)) in
+      let further : IsSparingRun g p (ss ++ s ∷ []) (a.lines ++ (map line_step found ++ step ∷ [])) (configuration d.config) (entries_of d) (tr ++ shown h.label) (ms ++ marks_of h.done.inner h.label) =
+      goes_on s step found given h.done.inner h.label filled are fills_here line_here in
+      let lines_are : d.lines ≡ a.lines ++ (map line_step found ++ step ∷ []) =
+      h.lines ∙ (ap (λ zs. zs ++ step ∷ []) grown.lines_are ∙ append_assoc a.lines (map line_step found) (step ∷ [])) in
       record {
         inner = h.done.inner;
         label = h.label;
-        run = subst (λ (g : Sig). HasFilled g p (ss ++ s ∷ []) d (tr ++ shown h.label) (ms ++ marks_of h.done.inner h.label)) grown.sig whole;
+        run = subst (λ (ls : List PStep). IsSparingRun g p (ss ++ s ∷ []) ls (configuration d.config) (entries_of d) (tr ++ shown h.label) (ms ++ marks_of h.done.inner h.label)) (sym lines_are) further;
       };
 }
 
 -- what is refused behind lines that a short run leaves out is refused before them
-denied_before : (a b : Filling) (step : PStep) (e : PFault) → IsGrown a b → IsDenied b.config step e → IsRefused a.config.sig (configuration a.config) (entries_of b) step e
-denied_before a b step e grown denied =
+denied_before : (a b : Filling) (step : PStep) (e : PFault) (found : List Line) (given : List Tree) → IsGrown a b found given → IsDenied b.config step e
+    → IsRefused a.config.sig (configuration a.config) (entries_of b) step e
+denied_before a b step e found given grown denied =
     subst (λ (c : Config). IsRefused a.config.sig c (entries_of b) step e) grown.config
     (subst (λ (g : Sig). IsRefused g (configuration b.config) (entries_of b) step e) grown.sig denied)
 
 -- ---- a line as it stands
 
 pub act_filled : (a d : Filling) (s : PStep) → MayStand s → IsFollowed a d s → IsFilledOn a d (short.Act s)
-act_filled a d s stands h = filled_on a a d (short.Act s) s (grown_not a) h (as_it_is stands)
+act_filled a d s stands h = filled_on a a d (short.Act s) s [] [] (grown_not a) none_found h (as_it_is stands)
 
 pub act_refused : LinesThatAskTheSameAreRefusedTheSame → (a : Filling) (s : PStep) (u : Unfilled) → MayStand s → OrMem (IsBlamedFor a s) u
     → OrMem (IsShortRefused a.config.sig (configuration a.config) (short.Act s)) u
@@ -102,10 +112,15 @@ cites a b u k h =
     subst (λ (g : Sig). Cites g (entries_of b) u k) (sym h.entered.grown.sig)
     (record { term = h.term; entry = h.entered.entry; over = h.given.over; form = h.given.form })
 
+-- what the step asks for was found, and then its own line was done
+entered_on : (a b d : Filling) (s : SStep) (step : PStep) (x : Tree) (k : ℕ) → (h : HasEntered a b x k) → AsksFor a.config.sig (configuration a.config) s x → IsFollowed b d step
+    → Fills b.config.sig (entries_of b) s step → IsFilledOn a d s
+entered_on a b d s step x k h asks is fills = filled_on a b d s step h.derivation.lines h.given h.grown (all_found asks h.found) is fills
+
 -- ---- the adversary shows
 
 pub know_filled : (a b d : Filling) (u : Term) (k : ℕ) → HasGiven a b u k → IsFollowed b d (line.Know k) → IsFilledOn a d (short.Know u)
-know_filled a b d u k h is = filled_on a b d (short.Know u) (line.Know k) h.entered.grown is (knowing (cites a b u k h))
+know_filled a b d u k h is = entered_on a b d (short.Know u) (line.Know k) h.term k h.entered (to_show h.given.form) is (knowing (cites a b u k h))
 
 -- an entry is shown, but for want of memory
 know_mem : (g : Sig) (c : Config) (es : List Tree) (k : ℕ) (x : Tree) (e : PFault) → slice_get es k ≡ Some x → IsRefused g c es (line.Know k) e → e ≡ fault.Mem
@@ -125,14 +140,14 @@ know_not_given g c u v h = or_mem _ _ (λ f n. known_not_given n) v h
 -- ---- a thread takes
 
 pub input_filled : (a b d : Filling) (t : ℕ) (u : Term) (k : ℕ) → HasGiven a b u k → IsFollowed b d (line.In t k) → IsFilledOn a d (short.In t u)
-input_filled a b d t u k h is = filled_on a b d (short.In t u) (line.In t k) h.entered.grown is (input (cites a b u k h))
+input_filled a b d t u k h is = entered_on a b d (short.In t u) (line.In t k) h.term k h.entered (to_take h.given.form) is (input (cites a b u k h))
 
 pub input_line_refused : LinesThatAskTheSameAreRefusedTheSame → (a b : Filling) (t : ℕ) (u : Term) (k : ℕ) (v : Unfilled) → HasGiven a b u k → OrMem (IsBlamedFor b (line.In t k)) v
     → OrMem (IsShortRefused a.config.sig (configuration a.config) (short.In t u)) v
 input_line_refused alike a b t u k v h is =
     or_mem _ _
     (λ f blame.
-    let there = denied_before a b (line.In t k) blame.cause h.entered.grown blame.denied in
+    let there = denied_before a b (line.In t k) blame.cause h.entered.derivation.lines h.entered.given h.entered.grown blame.denied in
     let alone : IsRefused a.config.sig (configuration a.config) (h.term ∷ []) (line.In t 0) blame.cause =
     alike a.config.sig (configuration a.config) (entries_of b) (h.term ∷ []) (line.In t k) (line.In t 0) blame.cause (take_in t k 0 h.term h.entered.entry refl) there in
     subst (IsShortRefused a.config.sig (configuration a.config) (short.In t u)) (sym blame.is) (input_refused h.given alone blame.other))
@@ -209,8 +224,8 @@ no_taker a t e u tied denied other is = blame (IsUnfitTaker (configuration a.con
 
 -- ---- a thread sends
 
-pub send_filled : (a b d : Filling) (t : ℕ) (x : Tree) (k : ℕ) → HasEntered a b x k → IsFollowed b d (line.Send t k) → IsFilledOn a d (short.Send t)
-send_filled a b d t x k h is = filled_on a b d (short.Send t) (line.Send t k) h.grown is sending
+pub send_filled : (a b d : Filling) (t : ℕ) (x : Tree) (k : ℕ) → HasEntered a b x k → SendsOn a.config.sig (configuration a.config) t x → IsFollowed b d (line.Send t k) → IsFilledOn a d (short.Send t)
+send_filled a b d t x k h on is = entered_on a b d (short.Send t) (line.Send t k) x k h (to_send on) is sending
 
 pub send_refused : FormIsOne → ChannelsHaveOneAnswer → LinesThatAskTheSameAreRefusedTheSame → (a b : Filling) (t : ℕ) (x : Tree) (k : ℕ) (v : Unfilled) → HasEntered a b x k
     → SendsOn a.config.sig (configuration a.config) t x → OrMem (IsBlamedFor b (line.Send t k)) v
@@ -218,7 +233,7 @@ pub send_refused : FormIsOne → ChannelsHaveOneAnswer → LinesThatAskTheSameAr
 send_refused one answer alike a b t x k v h on is =
     or_mem _ _
     (λ f blame.
-    let there = denied_before a b (line.Send t k) blame.cause h.grown blame.denied in
+    let there = denied_before a b (line.Send t k) blame.cause h.derivation.lines h.given h.grown blame.denied in
     let alone : IsRefused a.config.sig (configuration a.config) (x ∷ []) (line.Send t 0) blame.cause =
     alike a.config.sig (configuration a.config) (entries_of b) (x ∷ []) (line.Send t k) (line.Send t 0) blame.cause (send_on t k 0 x h.entry refl) there in
     let none = missing one a.config.sig (configuration a.config) t on.channel on.message x on.behind blame.cause on.runs on.form alone blame.other in

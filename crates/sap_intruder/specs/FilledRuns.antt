@@ -1,5 +1,5 @@
 -- The runs of a process that a short run stands for.
-use Rattle.std.specs.Prelude.{◌≡◌, ℕ, List, [], ◌∷◌, ◌++◌, Some, slice_get, All}
+use Rattle.std.specs.Prelude.{◌≡◌, ℕ, List, [], ◌∷◌, ◌++◌, Some, map, slice_get, All}
 use Rattle.sap_terms.specs.Equations.{equations}
 use Rattle.sap_terms.specs.Message.{IsOver}
 use Rattle.sap_terms.specs.Normal.{IsNormalForm}
@@ -9,6 +9,10 @@ use Rattle.sap_terms.specs.Tree.{Tree}
 use Rattle.sap_terms.specs.View.{tree}
 use Rattle.sap_terms.specs.declared.fact.Fact.{Fact}
 use Rattle.sap_terms.specs.declared.term.Term.{Term}
+use Rattle.sap_derive.specs.Found.{IsFoundBy}
+use Rattle.sap_derive.specs.declared.derivation.Derivation.{Derivation}
+use Rattle.sap_derive.specs.declared.line.Line.{Line}
+use Rattle.sap_derive.specs.declared.line.Line.TheVariants.{Public, Apply}
 use Rattle.sap_process.specs.Configuration.{Config, initial}
 use Rattle.sap_process.specs.Proc.{Proc}
 use Rattle.sap_runs.specs.Inner.{InnerAction}
@@ -19,6 +23,7 @@ use Rattle.sap_runs.specs.declared.process_step.PStep.{PStep}
 use Rattle.sap_runs.specs.declared.process_step.PStep.TheVariants as line
 use Rattle.sap_runs.specs.declared.short_step.SStep.{SStep}
 use Rattle.sap_runs.specs.declared.short_step.SStep.TheVariants as short
+use Rattle.sap_lines.specs.Channels.{SendsOn}
 use Rattle.sap_lines.specs.Lines.{IsProcessLine}
 use Rattle.sap_lines.specs.Runs.{IsLegalProcessRun}
 use Rattle.sap_intruder.specs.ShortRuns.{IsLegalShortRun}
@@ -60,7 +65,48 @@ pub data IsFilledRun (g : Sig) (W : Tree → Type 0) (p : Proc)
       → IsFilledRun g W p (ss ++ s ∷ []) (lines ++ step ∷ []) d fs (tr ++ shown label)
       (marks ++ marks_of inner label)
 
--- so the run is legal, and the short run is
+-- what a step asks the adversary for: what its term is, or the channel on which the thread sends
+pub data AsksFor (g : Sig) (c : Config) : SStep → Tree → Type 0 where
+  to_take : {t : ℕ} {u : Term} {x : Tree} → IsNormalForm (equations g) (tree u) x
+      → AsksFor g c (short.In t u) x
+  to_send : {t : ℕ} {x : Tree} → SendsOn g c t x → AsksFor g c (short.Send t) x
+  to_show : {u : Term} {x : Tree} → IsNormalForm (equations g) (tree u) x
+      → AsksFor g c (short.Know u) x
+
+-- Behind these entries these lines are found for the step, and give these terms: for one that asks for a term, lines that find it, none
+-- of which gives an entry, or a term that stands in no entry and not in what is asked for; for any other none.
+pub data AreFoundFor (g : Sig) (c : Config) (es : List Tree)
+    : SStep → List Line → List Tree → Type 0 where
+  none_found : {s : PStep} → AreFoundFor g c es (short.Act s) [] []
+  all_found : {s : SStep} {x : Tree} {d : Derivation} {given : List Tree} → AsksFor g c s x
+      → IsFoundBy g es x d given → AreFoundFor g c es s d.lines given
+
+-- the line of a process that a line of a derivation is
+abbrev pub line_step : Line → PStep
+line_step (Public a) = line.Public a
+line_step (Apply f ks) = line.Apply f ks
+
+-- The same with no idle lines: before each line that a step stands for come those that are found for it, within the limit, and no others.
+pub data IsSparingRun (g : Sig) (p : Proc)
+    : List SStep → List PStep → Config → List Tree → Trace → List Mark → Type 0 where
+  begins : IsSparingRun g p [] [] (initial p) [] [] []
+  goes_on : {ss : List SStep} {before : List PStep} {c d : Config} {es fs : List Tree} {tr : Trace}
+      {marks : List Mark} (s : SStep) (step : PStep) (found : List Line) (given : List Tree)
+      (inner : List InnerAction) (label : List Fact)
+      → IsSparingRun g p ss before c es tr marks → AreFoundFor g c es s found given
+      → Fills g (es ++ given) s step
+      → IsProcessLine g HasFewNodes c (es ++ given) step inner label d fs
+      → IsSparingRun g p (ss ++ s ∷ []) (before ++ (map line_step found ++ step ∷ [])) d fs
+      (tr ++ shown label) (marks ++ marks_of inner label)
+
+-- so it is such a run
+abbrev pub SparingRunsFill : Type 0
+SparingRunsFill =
+    (g : Sig) (p : Proc) (ss : List SStep) (lines : List PStep) (c : Config) (es : List Tree)
+    (tr : Trace) (marks : List Mark) → IsSparingRun g p ss lines c es tr marks
+    → IsFilledRun g HasFewNodes p ss lines c es tr marks
+
+-- a run that fills a short run is legal, and the short run is
 abbrev pub FilledRunsAreLegal : (Tree → Type 0) → Type 0
 FilledRunsAreLegal W =
     (g : Sig) (p : Proc) (ss : List SStep) (lines : List PStep) (c : Config) (es : List Tree)
@@ -81,10 +127,10 @@ SmallShortRunsCanBeFilled =
     → HoldsBuiltins g → All IsShortStep ss → IsLegalShortRun g HasFewNodes p ss c tr marks
     → (lines : List PStep) × (es : List Tree) × IsFilledRun g HasFewNodes p ss lines c es tr marks
 
--- the lines are such a run, within the limit
+-- the lines are a run that fills the short run within the limit, without idle lines
 pub record IsFilled (g : Sig) (p : Proc) (ss : List SStep) (lines : List PStep) : Type 0 where
   pub config : Config
   pub entries : List Tree
   pub trace : Trace
   pub marks : List Mark
-  pub run : IsFilledRun g HasFewNodes p ss lines config entries trace marks
+  pub run : IsSparingRun g p ss lines config entries trace marks

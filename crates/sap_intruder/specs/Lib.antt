@@ -2,7 +2,11 @@ pub mod ShortLines
 pub mod ShortRuns
 pub mod Refusals
 pub mod FilledRuns
+pub mod FilledNames
 pub mod OneAnswer
 pub mod SomeAnswer
+pub mod NeverFilled
 pub mod ShortExamples
+pub mod SparingExamples
+pub mod StepExamples
 pub mod code

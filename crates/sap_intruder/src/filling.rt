@@ -8,7 +8,8 @@ ghost use Rattle.sap_terms.specs.declared.var.Sort.TheVariants.{Msg};
 ghost use Rattle.sap_process.specs.Configuration.{CanGive};
 ghost use Rattle.sap_lines.specs.declared.fault.PFault.TheVariants.{Mem as OutOfMemory};
 ghost use Rattle.sap_calc.specs.Running.{configuration, IsDenied};
-ghost use Rattle.sap_intruder.specs.code.Filled.{AreCarriedOut, AreLeading, HasEntered, IsBlamedFor, IsFollowed, IsLooselyTied, IsPossible, IsTied, IsWritten, line_step, OrMem};
+ghost use Rattle.sap_intruder.specs.code.Filled.{AreCarriedOut, AreLeading, HasEntered, IsBlamedFor, IsFollowed, IsLooselyTied, IsPossible, IsTied, IsWritten, OrMem};
+ghost use Rattle.sap_intruder.specs.FilledRuns.{line_step};
 
 use crate::unfilled::{Unfilled, blamed};
 use sap_calc::Config;

@@ -6,7 +6,9 @@ ghost use Rattle.sap_process.specs.Configuration.{initial};
 ghost use Rattle.sap_process.specs.Proc.{nil};
 ghost use Rattle.sap_process.specs.StepExamples.{a};
 ghost use Rattle.sap_lines.specs.declared.fault.PFault.TheVariants as fault;
-ghost use Rattle.sap_intruder.specs.FilledRuns.{Fills, FilledRunsAreLegal, IsFilledRun, IsLeftOut, LegalShortRunsCanBeFilled, SmallShortRunsCanBeFilled};
+ghost use Rattle.sap_intruder.specs.FilledNames.{EntriesAreFew, SparingRunsBringNoName};
+ghost use Rattle.sap_intruder.specs.FilledRuns.{Fills, FilledRunsAreLegal, IsFilledRun, IsLeftOut, LegalShortRunsCanBeFilled, SmallShortRunsCanBeFilled, SparingRunsFill};
+ghost use Rattle.sap_intruder.specs.NeverFilled.{RefusedStepsCannotBeFilled};
 ghost use Rattle.sap_intruder.specs.OneAnswer.{FirstShortRefusalsAreOne, LegalShortRunsAreNotRefused, ShortLinesAreNotRefused, ShortRefusalsAreOne, ShortRunsHaveOneEnd};
 ghost use Rattle.sap_intruder.specs.Refusals.{IsShortRefused};
 ghost use Rattle.sap_intruder.specs.ShortExamples.{bare, know_a, know_a_lines, know_a_trace, unheld};
@@ -20,7 +22,8 @@ ghost use Rattle.sap_runs.specs.declared.short_step.SStep.TheVariants as short;
 use sap_derive::{deducibility_is_decided, derivations_stay_near};
 use sap_lines::{
     channels_are_one, each_run_can_be_written, limit_excludes, lines_are_steps,
-    lines_have_one_answer, lines_have_some_answer, lines_look_at_one_entry, runs_match_exactly,
+    lines_have_one_answer, lines_have_some_answer, lines_look_at_one_entry, names_stand_in_runs,
+    runs_match_exactly,
 };
 use sap_process::runs_stay_ground;
 use sap_rewrite::{
@@ -36,10 +39,12 @@ pub fn short_runs_are_runs()
     lines_are_steps();
 }
 
-/// A run that fills a short run is legal, and so is the short run; both lead to the same, show the same and have the same marks.
+/// A run that fills a short run is legal, and so is the short run; both lead to the same, show the same and have the same marks. One
+/// that fills it without idle lines fills it.
 pub fn filled_runs_are_legal()
     ensures runs { FilledRunsAreLegal AnySize }
     ensures small_runs { FilledRunsAreLegal HasFewNodes }
+    ensures sparing { SparingRunsFill }
 {
     lines_are_steps();
     lines_look_at_one_entry();
@@ -103,6 +108,31 @@ pub fn some_short_answer()
     each_run_can_be_written();
     runs_match_exactly();
     short_runs_are_runs();
+}
+
+/// A run that fills a short run without idle lines brings no name that stands neither in the process nor in the short run: a test
+/// that the names there pass, those that its lines bring pass. A run that is legal within the limit has no more entries than lines.
+pub fn sparing_runs_bring_no_name()
+    ensures names { SparingRunsBringNoName }
+    ensures few { EntriesAreFew HasFewNodes }
+{
+    normal_forms_are_unique();
+    equality_is_kept();
+    symbols_reduce_once();
+    leaves_are_normal();
+    names_stand_in_runs();
+    filled_runs_are_legal();
+}
+
+/// The first step of a short run that is refused is the first that no lines `pub` and `app` make possible, whichever and wherever they
+/// are put: some run fills the steps before it, and none those up to it.
+pub fn refused_steps_cannot_be_filled()
+    ensures { RefusedStepsCannotBeFilled }
+{
+    filled_runs_are_legal();
+    short_runs_can_be_filled();
+    one_short_answer();
+    some_short_answer();
 }
 
 /// A short run and steps by hand, of a process that is nothing, over a signature without symbols. `know 'a'` is a legal short run,

@@ -14,6 +14,7 @@ pub mod NeverStops
 pub mod JudgedAlike
 pub mod Written
 pub mod WrittenNames
+pub mod FilledRead
 pub mod WrittenRules
 pub mod JudgedTexts
 pub mod Opposites

@@ -107,7 +107,7 @@ module _ (g : Sig) where
 -- in lines that can be written
 
 mutual
-  written_passes : (t : Tree) → IsWritable t → NamesPass spellable t
+  pub written_passes : (t : Tree) → IsWritable t → NamesPass spellable t
   written_passes (variable v) h = tt
   written_passes (public a) h = content_passes a h
   written_passes (fresh n) h = number_passes n h
@@ -126,7 +126,7 @@ used_pass [] [] h = tt
 used_pass [] (x ∷ b) h = bound_pass (x ∷ b) h.1
 used_pass (k ∷ facts) b h = used_pass facts b h.1
 
-line_passes : (s : PStep) → IsWritableProcess s → LinePasses spellable s
+pub line_passes : (s : PStep) → IsWritableProcess s → LinePasses spellable s
 line_passes (step.New t n) h = number_passes n h.words.1.1.0
 line_passes (step.Name n) h = number_passes n h.words.1.0
 line_passes (step.Public a) h = content_passes a h.words.1.0

@@ -30,13 +30,13 @@ pub data IsShortRefusedWith (f : FileContent) (z : List ℕ) : List ℕ → Type
       → IsFirstRefusedOfShort f.signature f.process run number e
       → IsShortRefusedWith f z (at_step number (fill_fault_text e))
 
--- the text is that of lines that fill the short run
+-- the text is that of lines that fill the short run, none of them idle
 pub record IsTextFilling (f : FileContent) (run : List SStep) (text : List ℕ) : Type 0 where
   pub lines : List PStep
   pub filled : IsFilled f.signature f.process run lines
   pub layout : text ≡ process_run_text lines
 
--- the bytes are an accepted short run, and the text is that of lines that fill it
+-- the bytes are an accepted short run, and the text is that of such lines
 pub record IsFilledOf (f : FileContent) (z text : List ℕ) : Type 0 where
   pub run : List SStep
   pub read : IsAcceptedShort z run

@@ -29,11 +29,12 @@ use sap_chart::drawn_runs_are_legal;
 use sap_formula::faultless_formulas_are_checked;
 use sap_forward::process_runs_have_one_answer;
 use sap_gen::theories_are_printable;
-use sap_intruder::one_short_answer;
+use sap_intruder::{filled_runs_are_legal, one_short_answer, sparing_runs_bring_no_name};
 use sap_json::{json_runs_can_be_written, one_json_run, written_json_is_read};
 use sap_locks::annotations_are_ready;
 use sap_restrict::restrictions_say_sentences;
 use sap_rule::runs_reach_messages;
+use sap_run_lines::spelled_terms_can_be_written;
 use sap_run_texts::{
     named_steps_can_be_written, one_run, one_short_run, printed_runs_are_read,
     read_runs_can_be_written,
@@ -43,7 +44,7 @@ use sap_translate::{rules_are_well_made, rules_show_the_process, sound_processes
 
 /// A law: what is written of runs means what it should. What a task writes of a run that was read, where its file can run and can
 /// be printed; and of no other run than a legal one a task writes something. What is written of a run as JSON is read as this run, and
-/// so is the text of the run that JSON is.
+/// so is the text of the run that JSON is. Lines that fill a short run of a file that can be printed are read from their text.
 pub fn texts_mean_what_they_say()
     ensures { TextsMeanWhatTheySay }
 {
@@ -57,6 +58,10 @@ pub fn texts_mean_what_they_say()
     drawn_runs_are_legal();
     json_runs_can_be_written();
     written_json_is_read();
+    spelled_terms_can_be_written();
+    sparing_runs_bring_no_name();
+    filled_runs_are_legal();
+    annotations_are_ready();
 }
 
 /// A law: bytes of a run are refused for one cause at most: where a file that can run says which runs are legal, or a theory whose

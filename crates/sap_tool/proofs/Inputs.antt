@@ -14,7 +14,7 @@ use Rattle.sap_outside.specs.RunPieces.{most_run_bytes}
 use Rattle.sap_terms.specs.declared.limits.TheConstants.{MOST_FILE_NAME_BYTES}
 use Rattle.sap_read.specs.Printable.{IsPrintableFile}
 use Rattle.sap_read.specs.declared.limits.TheConstants.{MOST_NEW_NAME_BYTES}
-use Rattle.sap_intruder.specs.FilledRuns.{FilledRunsAreLegal}
+use Rattle.sap_intruder.specs.FilledRuns.{FilledRunsAreLegal, SparingRunsFill}
 use Rattle.sap_runs.specs.Limits.{HasFewNodes}
 use Rattle.sap_replay.specs.Laws.{TextsMeanWhatTheySay, RefusedRunsHaveOneCause, LegalRunsAreNotRefused}
 use Rattle.sap_replay.specs.AcceptedFile.{most_bytes, IsAcceptedFile, IsRefusedWith}
@@ -29,6 +29,7 @@ use Rattle.sap_replay.specs.ShortRuns.{IsShortRefusedWith}
 use Rattle.sap_replay.specs.RunRefusals.{IsIllegal, IsIllegalOfTheory, IsNeverIllegal, IsRunRefusedWith}
 use Rattle.sap_tool.proofs.AtOnce.{OnePage}
 use Rattle.sap_tool.proofs.Sound.{IsShown, IsSound, on_alone, on_both, on_run, alone_two, both_two, run_two, alone_whole, both_whole, run_whole, alone_as_read, both_as_read, run_as_read, alone_as_held, both_as_held, run_as_held}
+use Rattle.sap_tool.specs.AcceptedRuns.{IsFilledText, IsLegalFilling}
 use Rattle.sap_tool.specs.Meaning.{IsWritten}
 use Rattle.sap_tool.proofs.ShortRefused.{filled_is_legal, short_read_up_refused, short_refused_by_read_up}
 use Rattle.sap_tool.proofs.JsonRefused.{json_part_refused, json_refused_by_part}
@@ -58,6 +59,7 @@ pub record Laws : Type 0 where
   pub unrefused : LegalRunsAreNotRefused
   pub filled : FilledRunsAreLegal HasFewNodes
   pub one_page : OnePage
+  pub sparing : SparingRunsFill
 
 -- what is so of what is fetched first: a file, a theory, or what is neither
 of_files : Laws → IsShown most_bytes IsRefusedWith AcceptsFile
@@ -145,11 +147,15 @@ replaying_is laws task file run = record {
       held read why;
 }
 
+-- what is allowed of a short run means what it should
+filled_meant : Laws → (bytes z text : List ℕ) → IsFilledText bytes z text → IsLegalFilling bytes z text
+filled_meant laws bytes z text t = filled_is_legal laws.filled laws.sparing laws.meant bytes z text t (laws.runnable bytes t.told t.file.read) (laws.printed bytes t.told t.file)
+
 -- the run of a file that a short run stands for
 filling_is : Laws → (file run : List ℕ) → IsSound (filling file run)
 filling_is laws file run = record {
   fetched = of_files laws;
-  means = λ input text. on_both _ _ (λ bytes z t. filled_is_legal laws.filled bytes z text t) input;
+  means = λ input text. on_both _ _ (λ bytes z t. filled_meant laws bytes z text t) input;
   never_taken = λ input why. both_two _ _ ⊥ (λ bytes z t r.
       let same : r.0 ≡ t.told = same_file laws.one bytes r.0 t.told r.1.read t.file.read in
       laws.unrefused.short t.told z why t.run t.config t.trace t.marks (laws.runnable bytes t.told t.file.read) t.read t.legal
@@ -158,7 +164,7 @@ filling_is laws file run = record {
       let same : s.0 ≡ r.0 = same_file laws.one bytes s.0 r.0 s.1.read r.1.read in
       laws.one_cause.short r.0 z why other (laws.runnable bytes r.0 r.1.read) r.2
       (subst (λ (f : FileContent). IsShortRefusedWith f z other) same s.2)) input;
-  takes = λ input text why t r. on_both _ _ (λ bytes z t. (filled_is_legal laws.filled bytes z text t).short) input t;
+  takes = λ input text why t r. on_both _ _ (λ bytes z t. (filled_meant laws bytes z text t).short) input t;
   allowed_is_whole = λ input text. both_whole (filling file run) _ (λ bytes z t. (t.told, t.file)) input;
   refused_is_whole = λ input why. both_whole (filling file run) _ (λ bytes z r. (r.0, r.1)) input;
   taken_is_whole = λ input. both_whole (filling file run) _ (λ bytes z t. (t.told, t.file)) input;

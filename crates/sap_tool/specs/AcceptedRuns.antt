@@ -1,10 +1,12 @@
 -- Runs of accepted files and theories: which are legal, what is written of them, and what is so of what `fill` writes.
-use Rattle.std.specs.Prelude.{◌≡◌, ℕ, List, Ok}
+use Rattle.std.specs.Prelude.{◌≡◌, ◌≤◌, ℕ, List, length, Ok}
 use Rattle.sap_lines.specs.Runs.{IsLegalProcessRun}
 use Rattle.sap_process.specs.Configuration.{Config}
 use Rattle.sap_read.specs.Files.{FileContent}
 use Rattle.sap_rule.specs.declared.theory.Theory.{Theory}
 use Rattle.sap_run_texts.specs.RunPrinted.{process_run_text}
+use Rattle.sap_run_texts.specs.RunTexts.{IsProcessRunText}
+use Rattle.sap_run_texts.specs.declared.limits.TheConstants.{MOST_PROCESS_STEPS}
 use Rattle.sap_run_texts.specs.declared.run.Kinds.{Kinds}
 use Rattle.sap_run_texts.specs.declared.run.Kinds.TheVariants.{Rules}
 use Rattle.sap_run_texts.specs.declared.run.Run.{Run}
@@ -18,7 +20,7 @@ use Rattle.sap_replay.specs.ShortRuns.{IsAcceptedShort}
 use Rattle.sap_replay.specs.AcceptedFile.{IsAcceptedFile}
 use Rattle.sap_replay.specs.AcceptedTheory.{IsAcceptedTheory}
 use Rattle.sap_outside.specs.RunPieces.{IsRunAnswer}
-use Rattle.sap_intruder.specs.FilledRuns.{IsFilled, IsFilledRun}
+use Rattle.sap_intruder.specs.FilledRuns.{IsFilled, IsFilledRun, IsSparingRun}
 use Rattle.sap_intruder.specs.ShortRuns.{IsLegalShortRun}
 use Rattle.sap_runs.specs.declared.short_step.SStep.{SStep}
 
@@ -58,7 +60,7 @@ pub record IsLegalOfTheory (bytes z : List ℕ) : Type 0 where
   pub full : Trace
   pub shown : IsFullOf theory lines full
 
--- the bytes are an accepted file, and those of the run an accepted short run; the text is that of lines that fill it
+-- the bytes are an accepted file, and those of the run an accepted short run; the text is that of lines that fill it, none of them idle
 pub record IsFilledText (bytes z text : List ℕ) : Type 0 where
   pub told : FileContent
   pub file : IsAcceptedFile bytes told
@@ -80,7 +82,8 @@ pub record IsLegalShortOfFile (bytes z : List ℕ) : Type 0 where
   pub legal : IsLegalShortRun told.signature HasFewNodes told.process run config trace marks
 
 -- So the text is that of a run of the file's process that is legal within the limit, and the short run is legal too: both lead to one
--- configuration, with one trace and the same marks.
+-- configuration, with one trace and the same marks. None of its lines is idle. It is read as that run, unless that has more lines than a run
+-- may have.
 pub record IsLegalFilling (bytes z text : List ℕ) : Type 0 where
   pub short : IsLegalShortOfFile bytes z
   pub lines : List PStep
@@ -88,5 +91,8 @@ pub record IsLegalFilling (bytes z text : List ℕ) : Type 0 where
   pub entries : List Tree
   pub fills : IsFilledRun short.told.signature HasFewNodes short.told.process short.run lines
       short.config entries short.trace short.marks
+  pub sparing : IsSparingRun short.told.signature short.told.process short.run lines
+      short.config entries short.trace short.marks
   pub legal : IsLegalProcessRun short.told.signature HasFewNodes short.told.process lines
       short.config entries short.trace short.marks
+  pub read : length lines ≤ MOST_PROCESS_STEPS → IsProcessRunText text (Ok lines)

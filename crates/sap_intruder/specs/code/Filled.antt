@@ -1,14 +1,15 @@
 -- A short run that is being filled: what is kept beside its lines, and what each part of a step does to it.
-use Rattle.std.specs.Prelude.{◌≡◌, ◌⊎◌, ℕ, true, List, [], ◌∷◌, ◌++◌, Some, length, slice_get}
+use Rattle.std.specs.Prelude.{◌≡◌, ◌⊎◌, ℕ, true, List, [], ◌∷◌, ◌++◌, Some, length, map, slice_get}
 use Rattle.sap_terms.specs.Signature.{Sig}
 use Rattle.sap_terms.specs.Trace.{Trace, shown}
 use Rattle.sap_terms.specs.Tree.{Tree}
 use Rattle.sap_terms.specs.declared.fact.Fact.{Fact}
 use Rattle.sap_terms.specs.declared.term.Term.{Term}
 use Rattle.sap_deduce.specs.Entries.{terms_of}
+use Rattle.sap_derive.specs.Found.{IsFoundBy}
 use Rattle.sap_derive.specs.Lines.{Give, IsLine}
+use Rattle.sap_derive.specs.declared.derivation.Derivation.{Derivation}
 use Rattle.sap_derive.specs.declared.line.Line.{Line}
-use Rattle.sap_derive.specs.declared.line.Line.TheVariants.{Public, Apply}
 use Rattle.sap_process.specs.Configuration.{Config, Runs, CanGive}
 use Rattle.sap_process.specs.Proc.{Proc}
 use Rattle.sap_runs.specs.Inner.{InnerAction}
@@ -21,7 +22,7 @@ use Rattle.sap_lines.specs.Faults.{IsUnfit, has_form}
 use Rattle.sap_lines.specs.declared.fault.PFault.{PFault}
 use Rattle.sap_lines.specs.declared.fault.PFault.TheVariants as fault
 use Rattle.sap_calc.specs.Running.{configuration, IsDone, IsDenied}
-use Rattle.sap_intruder.specs.FilledRuns.{IsFilledRun}
+use Rattle.sap_intruder.specs.FilledRuns.{IsSparingRun, line_step}
 use Rattle.sap_intruder.specs.Refusals.{IsShortRefused}
 use Rattle.sap_intruder.specs.ShortLines.{IsGiven}
 use Rattle.sap_intruder.specs.declared.fill_fault.FillFault.{FillFault}
@@ -86,11 +87,6 @@ pub record IsBlamedFor (a : Filling) (step : PStep) (f : FillFault) : Type 0 whe
   pub denied : IsDenied a.config step cause
   pub other : ¬ (cause ≡ fault.Mem)
 
--- the line of a process that a line of a derivation is
-abbrev pub line_step : Line → PStep
-line_step (Public a) = line.Public a
-line_step (Apply f ks) = line.Apply f ks
-
 -- the line is possible behind the entries
 abbrev pub IsPossible : Filling → Line → Type 0
 IsPossible a l = (u : Tree) × IsLine a.config.sig (entries_of a) l u
@@ -99,32 +95,30 @@ IsPossible a l = (u : Tree) × IsLine a.config.sig (entries_of a) l u
 abbrev pub AreLeading : Filling → List Line → Type 0
 AreLeading a lines = (given : List Tree) × Give a.config.sig (entries_of a) lines given
 
--- the lines so far fill these steps of a short run, within the limit
+-- the lines so far fill these steps of a short run, within the limit and without idle lines
 abbrev pub HasFilled : Sig → Proc → List SStep → Filling → Trace → List Mark → Type 0
 HasFilled g p ss a tr ms =
-    IsFilledRun g HasFewNodes p ss a.lines (configuration a.config) (entries_of a) tr ms
+    IsSparingRun g p ss a.lines (configuration a.config) (entries_of a) tr ms
 
--- Lines came that a short run leaves out. So the configuration is the same, and what was filled still is.
-pub record IsGrown (a b : Filling) : Type 0 where
+-- these lines of a derivation came, and these entries; the configuration is the same
+pub record IsGrown (a b : Filling) (lines : List Line) (given : List Tree) : Type 0 where
   pub sig : b.config.sig ≡ a.config.sig
   pub config : configuration b.config ≡ configuration a.config
-  pub run : (p : Proc) (ss : List SStep) (tr : Trace) (ms : List Mark)
-      → HasFilled a.config.sig p ss a tr ms → HasFilled a.config.sig p ss b tr ms
-
--- what these lines give was entered, and nothing else happened
-pub record IsCarriedOut (a b : Filling) (given : List Tree) : Type 0 where
-  pub grown : IsGrown a b
+  pub lines_are : b.lines ≡ a.lines ++ map line_step lines
   pub entries : entries_of b ≡ entries_of a ++ given
 
 -- if the lines are possible behind the entries, what they give was entered; the search wasn't touched
 pub record AreCarriedOut (a b : Filling) (lines : List Line) : Type 0 where
   pub search : b.search ≡ a.search
   pub count : b.count ≡ a.count
-  pub out : (given : List Tree) → Give a.config.sig (entries_of a) lines given → IsCarriedOut a b given
+  pub out : (given : List Tree) → Give a.config.sig (entries_of a) lines given → IsGrown a b lines given
 
--- lines came that a short run leaves out, this entry is the term, and the adversary can give that
+-- lines came that find the term, this entry is it, and the adversary can give it
 pub record HasEntered (a b : Filling) (x : Tree) (k : ℕ) : Type 0 where
-  pub grown : IsGrown a b
+  pub derivation : Derivation
+  pub given : List Tree
+  pub found : IsFoundBy a.config.sig (entries_of a) x derivation given
+  pub grown : IsGrown a b derivation.lines given
   pub tied : IsTied b
   pub entry : slice_get (entries_of b) k ≡ Some x
   pub gives : CanGive a.config.sig (configuration a.config) x

@@ -23,5 +23,6 @@ returns g c =
       unrefused = c.legal_runs_are_not_refused.ensures;
       filled = c.filled_runs_are_legal.ensures.small_runs;
       one_page = c.one_page.ensures;
+      sparing = c.filled_runs_are_legal.ensures.sparing;
     })
     _ _ c.run.ensures

@@ -33,7 +33,7 @@ returns-clause-ok c =
     let here : Running → Filling = λ (r : Running). record { config = r; search = a.search; count = a.count; lines = a.lines } in
     let there : HasEntered (here c.channel.new.self) b x c.in-Some.k = subst (λ (o : Option ℕ). IfSome o (HasEntered (here c.channel.new.self) b x)) c.in-Some.is c.in_ok-find.ensures.some in
     let entered : HasEntered a b x c.in-Some.k = subst (λ (r : Running). HasEntered (here r) b x c.in-Some.k) c.in-Ok.ensures.kept there in
-    on_ok_weaker c.follow.result (λ h. send_filled a b c.follow.new.self c.args.t x c.in-Some.k entered h) c.follow.ensures.ok
+    on_ok_weaker c.follow.result (λ h. send_filled a b c.follow.new.self c.args.t x c.in-Some.k entered c.in-Ok.ensures.ok h) c.follow.ensures.ok
 
 pub returns-clause-refused : goal.returns-clause-refused
 returns-clause-refused c =

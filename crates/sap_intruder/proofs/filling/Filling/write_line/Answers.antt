@@ -3,7 +3,8 @@ use Rattle.std.proofs.lemmas.Result.{IfErr-weaker}
 use Rattle.sap_runs.specs.declared.process_step.PStep.{PStep}
 use Rattle.sap_lines.specs.Faults.{IsRefused}
 use Rattle.sap_calc.specs.Running.{configuration}
-use Rattle.sap_intruder.specs.code.Filled.{entries_of, line_step}
+use Rattle.sap_intruder.specs.FilledRuns.{line_step}
+use Rattle.sap_intruder.specs.code.Filled.{entries_of}
 use Rattle.sap_intruder.proofs.Possible.{possible_mem}
 use Rattle.sap_intruder.proofs.filling.Filling.write_line.Goals as goal
 
