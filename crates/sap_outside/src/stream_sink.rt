@@ -1,5 +1,5 @@
 //! The streams of the system, as sinks.
-ghost use Rattle.std.specs.Prelude.{◌≡◌, ◌≤◌, ◌×◌, ◌+◌, ◌-◌, ◌^◌, [], length, min, IsOk, OnOk, IfErr, IfSome, IsErrOf, None};
+ghost use Rattle.std.specs.Prelude.{◌≡◌, ◌≤◌, ◌+◌, ◌-◌, ◌^◌, [], length, min, IsOk, OnOk, IfErr, IfSome, IsErrOf, None};
 ghost use Rattle.sap_outside.specs.Outside.{Rose};
 ghost use Rattle.sap_outside.specs.Seen.{seen_sink};
 
