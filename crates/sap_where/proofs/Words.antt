@@ -1,11 +1,17 @@
 -- The words of tokens, and where the last of them ends.
-use Rattle.std.proofs.Common.{◌≡◌, ◌-◌, ℕ, suc, List, [], ◌∷◌, length, refl, ap, subst, arith, Some, None}
+use Rattle.std.proofs.Common.{◌≡◌, ◌-◌, ℕ, zero, suc, List, [], ◌∷◌, drop, length, refl, ap, subst, arith, Some, None}
 use Rattle.std.specs.Prelude.{slice_get}
 use Rattle.sap_text.specs.declared.token.Token.{Token}
+use Rattle.sap_grammar.specs.Words.{words_of}
 use Rattle.std.specs.List.{All}
 use Rattle.std.proofs.Common.{◌≤◌}
 use Rattle.sap_text.specs.Spans.{IsWithin}
 use Rattle.sap_where.specs.Where.{end_of}
+
+pub dropped : (z : List ℕ) (n : ℕ) (ts : List Token) → words_of z (drop n ts) ≡ drop n (words_of z ts)
+dropped z zero ts = refl
+dropped z (suc n) [] = refl
+dropped z (suc n) (t ∷ ts) = dropped z n ts
 
 pub last_is : (ts : List Token) (t : Token) → Some t ≡ slice_get ts (length ts - 1) → t.to ≡ end_of ts
 last_is [] t e = cc
