@@ -1,6 +1,4 @@
 //! The adversary's knowledge.
-ghost use Rattle.std.specs.Prelude.{◌≡◌};
-
 use crate::known::Known;
 use crate::messages::{begin_normal, is_small};
 use sap_deduce::Deny;
