@@ -1,0 +1,359 @@
+//! How rows are written: their parts, line feeds, bytes and repetitions, and what the texts of parts stand for.
+use crate::page::Page;
+use sap_grammar::{Limits, read_facts, read_term};
+use sap_terms::{
+    Binding, Bindings, Builtin, Copied, Fact, FactList, Items, MOST_FILE_NAME_BYTES,
+    MOST_TERM_LEVELS, Mem, Name, SigFault, Signature, Sort, Term, TermList, Trace, Var, subst,
+};
+use sap_text::{Token, tokens};
+use std::alloc::Global;
+use std::str;
+
+/// The piece of this number, from 0, between the marks, without blanks around it; empty where there are fewer pieces.
+pub fn nth(text: &str, mark: char, k: usize) -> &str {
+    match text.split(mark).nth(k) {
+        Some(piece) => piece.trim(),
+        None => "",
+    }
+}
+
+/// The part of a row with this number, from 0, without blanks around it; empty where there are fewer parts.
+pub fn part(row: &str, k: usize) -> &str {
+    nth(row, '%', k)
+}
+
+/// The first word, and what stands behind the blank that follows it.
+pub fn parted(text: &str) -> (&str, &str) {
+    text.split_once(' ').unwrap_or((text, ""))
+}
+
+/// What stands between these two texts; nothing where the bytes don't begin and end with them.
+pub fn between<'a>(bytes: &'a [u8], before: &str, after: &str) -> Option<&'a [u8]> {
+    bytes
+        .strip_prefix(before.as_bytes())?
+        .strip_suffix(after.as_bytes())
+}
+
+/// The number that the part spells in decimal.
+pub fn number(page: &mut Page, text: &str) -> u64 {
+    match text.parse::<u64>() {
+        Ok(number) => number,
+        Err(_) => {
+            page.fail();
+            0
+        }
+    }
+}
+
+// The text with line feeds where `^` stands; and, if there is a number, with it where `#` stands, and the next one where `?` does.
+fn push_text(page: &mut Page, text: &str, number: Option<u64>) {
+    for byte in text.as_bytes() {
+        match (*byte, number) {
+            (b'^', _) => page.byte(b'\n'),
+            (b'#', Some(k)) => page.numbered("", k),
+            (b'?', Some(k)) => page.numbered("", k.saturating_add(1)),
+            (byte, _) => page.byte(byte),
+        }
+    }
+}
+
+fn digit(c: u8) -> u8 {
+    if c < b'a' {
+        c.wrapping_sub(b'0')
+    } else {
+        c.wrapping_sub(b'a').wrapping_add(10)
+    }
+}
+
+// So many times the text.
+fn push_times(page: &mut Page, times: u32, text: &str) {
+    for k in 0..times {
+        push_text(page, text, Some(k as u64));
+    }
+}
+
+// What stands between braces: a number of times and a text, with the number of each where `#` stands and the next one where `?`
+// does, or two hexadecimal digits.
+fn push_braced(page: &mut Page, inside: &str) {
+    match (inside.split_once(':'), inside.as_bytes()) {
+        (Some((times, text)), _) => push_times(page, times.parse::<u32>().unwrap_or(0), text),
+        (None, [high, low]) => page.byte(digit(*high).wrapping_mul(16).wrapping_add(digit(*low))),
+        _ => {}
+    }
+}
+
+fn push_written(page: &mut Page, text: &str) {
+    for piece in text.split('{') {
+        let (inside, rest) = piece.split_once('}').unwrap_or(("", piece));
+        push_braced(page, inside);
+        push_text(page, rest, None);
+    }
+}
+
+/// The bytes that a part stands for, with others before and behind: `^` is a line feed, `{0a}` the byte of two hexadecimal digits,
+/// `{3:a#}` is `a0a1a2`, `{3:a?}` is `a1a2a3`, and `{}` is nothing.
+pub fn enclosed(alloc: Global, before: &str, text: &str, behind: &str) -> Page {
+    let mut page = Page::new(alloc);
+    page.word(before);
+    push_written(&mut page, text);
+    page.word(behind);
+    page
+}
+
+/// The bytes that a part stands for.
+pub fn written(alloc: Global, text: &str) -> Page {
+    enclosed(alloc, "", text, "")
+}
+
+/// The bytes of a file: what the part says between a header and `end`, or what stands behind `=`.
+pub fn file_bytes(alloc: Global, text: &str) -> Page {
+    match text.strip_prefix('=') {
+        Some(whole) => written(alloc, whole),
+        None => enclosed(alloc, "theory T begin ", text, " end"),
+    }
+}
+
+/// The name of these bytes; none where memory is wanting.
+pub fn name(alloc: Global, text: &str) -> Option<Name> {
+    Name::from_bytes(alloc, text.as_bytes()).ok()
+}
+
+/// What a text stands for.
+pub trait FromText: Sized {
+    /// What the text stands for under the signature; none where it stands for nothing, or memory is wanting.
+    fn from_text(page: &mut Page, sig: &Signature, text: &str) -> Option<Self>;
+}
+
+/// What the texts stand for that are between the marks, without blanks around them; an empty one stands for nothing.
+pub fn list<T: FromText + Drop>(
+    page: &mut Page,
+    sig: &Signature,
+    mark: char,
+    texts: &str,
+) -> Items<T> {
+    let mut list = Items::new(page.alloc);
+    for text in texts.split(mark) {
+        let text = text.trim();
+        if !text.is_empty() {
+            let item = T::from_text(page, sig, text);
+            page.put(&mut list, item);
+        }
+    }
+    list
+}
+
+impl FromText for u64 {
+    fn from_text(page: &mut Page, _sig: &Signature, text: &str) -> Option<u64> {
+        Some(number(page, text))
+    }
+}
+
+impl FromText for Name {
+    fn from_text(page: &mut Page, _sig: &Signature, text: &str) -> Option<Name> {
+        name(page.alloc, text)
+    }
+}
+
+// `x`, `~x`, `$x`.
+impl FromText for Var {
+    fn from_text(page: &mut Page, _sig: &Signature, text: &str) -> Option<Var> {
+        let (sort, rest) = match text.as_bytes() {
+            [b'~', rest @ ..] => (Sort::Fresh, rest),
+            [b'$', rest @ ..] => (Sort::Pub, rest),
+            rest => (Sort::Msg, rest),
+        };
+        match Name::from_bytes(page.alloc, rest) {
+            Ok(name) => Some(Var { name, sort }),
+            Err(_) => None,
+        }
+    }
+}
+
+// `x = 'a'`.
+impl FromText for Binding {
+    fn from_text(page: &mut Page, sig: &Signature, text: &str) -> Option<Binding> {
+        let (var, bound) = text.split_once('=')?;
+        let var = Var::from_text(page, sig, var.trim());
+        let (var, term) = var.zip(named_term(page, sig, bound.trim()))?;
+        Some(Binding { var, term })
+    }
+}
+
+// With the fresh names 0 to 9 in place of the variables ~n0 to ~n9; behind `where` stand bindings, whose instance it is:
+// `<x,y> where x = 'a'; y = ~n1`.
+impl FromText for Term {
+    fn from_text(page: &mut Page, sig: &Signature, text: &str) -> Option<Term> {
+        let (text, bound) = text.split_once(" where ").unwrap_or((text, ""));
+        let bound = list(page, sig, ';', bound);
+        instance(page.alloc, named_term(page, sig, text), &bound)
+    }
+}
+
+/// What was read, without the number of the token behind it.
+pub fn first<T: Drop>(read: Result<Option<(T, u64)>, Mem>) -> Option<T> {
+    match read {
+        Ok(Some((value, _))) => Some(value),
+        _ => None,
+    }
+}
+
+/// The tokens of the bytes; none where a fault stands in them.
+pub fn tokens_of(alloc: Global, bytes: &[u8]) -> Vec<Token> {
+    match tokens(alloc, bytes, 64) {
+        Ok(found) => found,
+        Err(_) => Vec::new(alloc),
+    }
+}
+
+// The limits of a file.
+const LIMITS: Limits = Limits {
+    name_bytes: MOST_FILE_NAME_BYTES,
+    term_levels: MOST_TERM_LEVELS as u32,
+    term_nodes: None,
+    formula_levels: MOST_TERM_LEVELS as u32,
+};
+
+// The variable ~n0 with the fresh name 0 for it, and so on.
+fn fresh_name(alloc: Global, k: u8) -> Option<Binding> {
+    match Name::from_bytes(alloc, [b'n', b'0'.wrapping_add(k)].as_slice()) {
+        Ok(name) => Some(Binding {
+            var: Var {
+                name,
+                sort: Sort::Fresh,
+            },
+            term: Term::Fresh(k as u64),
+        }),
+        Err(_) => None,
+    }
+}
+
+// The variables ~n0 to ~n9 with the fresh names 0 to 9 for them.
+fn fresh_names(page: &mut Page) -> Bindings {
+    let mut names = Bindings::new(page.alloc);
+    for k in 0..10 {
+        page.put(&mut names, fresh_name(page.alloc, k));
+    }
+    names
+}
+
+fn instance(alloc: Global, term: Option<Term>, names: &Bindings) -> Option<Term> {
+    match term {
+        Some(term) => subst(alloc, &term, names).ok(),
+        None => None,
+    }
+}
+
+fn spelled_term(alloc: Global, sig: &Signature, text: &str) -> Option<Term> {
+    let bytes = written(alloc, text);
+    let found = tokens_of(alloc, bytes.as_bytes());
+    first(read_term(alloc, sig, LIMITS, bytes.as_bytes(), &found, 0))
+}
+
+// The term that the text spells, with fresh names.
+fn named_term(page: &mut Page, sig: &Signature, text: &str) -> Option<Term> {
+    let names = fresh_names(page);
+    instance(page.alloc, spelled_term(page.alloc, sig, text), &names)
+}
+
+fn instances(alloc: Global, terms: &TermList, names: &Bindings) -> Option<TermList> {
+    let mut list = TermList::new(alloc);
+    for term in terms.as_slice() {
+        list.push(subst(alloc, term, names).ok()?).ok()?;
+    }
+    Some(list)
+}
+
+// The fact with these names.
+fn named_fact(alloc: Global, fact: &Fact, names: &Bindings) -> Option<Fact> {
+    let name = fact.name.copy(alloc).ok();
+    let (name, args) = name.zip(instances(alloc, &fact.args, names))?;
+    Some(Fact {
+        name,
+        persistent: fact.persistent,
+        args,
+    })
+}
+
+fn put_named(page: &mut Page, list: &mut FactList, facts: &[Fact]) {
+    let names = fresh_names(page);
+    for fact in facts {
+        page.put(list, named_fact(page.alloc, fact, &names));
+    }
+}
+
+// The facts that the bytes spell up to the bracket at their end.
+fn put_spelled(page: &mut Page, sig: &Signature, list: &mut FactList, bytes: &[u8]) {
+    let found = tokens_of(page.alloc, bytes);
+    match &read_facts(page.alloc, sig, LIMITS, bytes, true, "]", found.as_slice()) {
+        Ok(Some((facts, []))) => put_named(page, list, facts.as_slice()),
+        _ => page.fail(),
+    }
+}
+
+/// The facts that the text spells under the signature, with commas between them and with fresh names.
+pub fn facts(page: &mut Page, sig: &Signature, text: &str) -> FactList {
+    let bytes = enclosed(page.alloc, "", text, " ]");
+    let mut list = FactList::new(page.alloc);
+    put_spelled(page, sig, &mut list, bytes.as_bytes());
+    list
+}
+
+fn put_times(page: &mut Page, sig: &Signature, trace: &mut Trace, text: &str) {
+    if !text.is_empty() {
+        for time in text.split('|') {
+            let facts = facts(page, sig, time);
+            page.put(trace, Some(facts));
+        }
+    }
+}
+
+/// The facts of times, with bars between them.
+pub fn trace(page: &mut Page, sig: &Signature, text: &str) -> Trace {
+    let bytes = written(page.alloc, text);
+    let mut trace = Trace::new(page.alloc);
+    put_times(
+        page,
+        sig,
+        &mut trace,
+        str::from_utf8(bytes.as_bytes()).unwrap_or(""),
+    );
+    trace
+}
+
+/// Adds a builtin, or a symbol with its arity, behind `-` where it is private, and gives the answer.
+pub fn add(page: &mut Page, sig: &mut Signature, word: &str) -> Result<(), SigFault> {
+    match word {
+        "hashing" => sig.add_builtin(Builtin::Hashing),
+        "symmetric" => sig.add_builtin(Builtin::Symmetric),
+        "asymmetric" => sig.add_builtin(Builtin::Asymmetric),
+        "signing" => sig.add_builtin(Builtin::Signing),
+        "revealing" => sig.add_builtin(Builtin::RevealingSigning),
+        _ => declare(page, sig, word),
+    }
+}
+
+fn declare(page: &mut Page, sig: &mut Signature, word: &str) -> Result<(), SigFault> {
+    let symbol = word.strip_prefix('-').unwrap_or(word);
+    let (f, arity) = symbol.split_once('/').unwrap_or((symbol, ""));
+    let arity = number(page, arity);
+    match name(page.alloc, f) {
+        Some(f) => sig.declare(f, arity, word.starts_with('-')),
+        None => Err(SigFault::Mem),
+    }
+}
+
+fn add_each(page: &mut Page, sig: &mut Signature, words: &str) {
+    for word in words.split(' ') {
+        if !word.is_empty() && add(page, sig, word).is_err() {
+            page.fail();
+        }
+    }
+}
+
+/// The signature of these words, each a builtin or a symbol with its arity, behind `-` where it is private:
+/// `hashing symmetric asymmetric signing revealing f/2 -k/1`.
+pub fn signature(page: &mut Page, words: &str) -> Option<Signature> {
+    let mut sig = Signature::new(page.alloc).ok()?;
+    add_each(page, &mut sig, words);
+    Some(sig)
+}

@@ -1,0 +1,79 @@
+//! Files as they are read: their processes, sizes and instances.
+use crate::show::{show_places, show_process};
+use sap_place::places;
+use sap_process::{Process, substitute};
+use sap_read::{File, read_file_boxed};
+use sap_rows::{Page, file_bytes, list, part};
+use sap_terms::{Bindings, Mem, Signature};
+use std::alloc::Global;
+
+// The symbols behind those of pairs, in brackets.
+fn show_symbols(page: &mut Page, sig: &Signature) {
+    page.word("[");
+    if let [_, _, _, others @ ..] = sig.symbols() {
+        for symbol in others {
+            page.named("", &symbol.name);
+            page.numbered("/", symbol.arity);
+            page.word(if symbol.private { "p " } else { " " });
+        }
+    }
+    page.word("] ");
+}
+
+fn show_file(page: &mut Page, file: &File) {
+    show_symbols(page, &file.signature);
+    show_process(page, &file.process);
+}
+
+fn show_copy(page: &mut Page, file: &File) {
+    match file.boxed_copy(page.alloc) {
+        Ok(copy) => show_file(page, &copy),
+        Err(_) => page.fail(),
+    }
+}
+
+fn show_places_of(page: &mut Page, p: &Process) {
+    match places(page.alloc, p) {
+        Ok(places) => show_places(page, places.as_slice()),
+        Err(_) => page.fail(),
+    }
+}
+
+fn instance(alloc: Global, p: &Process, b: &Bindings) -> Result<Box<Process>, Mem> {
+    Ok(Box::new(alloc, substitute(alloc, p, b)?)?)
+}
+
+fn show_instance(page: &mut Page, sig: &Signature, p: &Process, bound: &str) {
+    let bindings = list(page, sig, ';', bound);
+    match instance(page.alloc, p, &bindings) {
+        Ok(instance) => show_process(page, &instance),
+        Err(_) => page.fail(),
+    }
+}
+
+fn show_kind(page: &mut Page, sig: &Signature, file: &File, row: &str) {
+    match (part(row, 0), &file.process) {
+        ("process", _) => show_copy(page, file),
+        ("places", p) => show_places_of(page, p),
+        ("size", p) => {
+            page.numbered("", p.nodes());
+            page.numbered(" ", p.levels());
+        }
+        ("whole", p) => show_instance(page, sig, p, part(row, 2)),
+        ("behind", Process::In(_, rest) | Process::New(_, rest)) => {
+            show_instance(page, sig, rest, part(row, 2))
+        }
+        _ => page.fail(),
+    }
+}
+
+/// Of a file that isn't refused: `process`, its symbols behind those of pairs and a copy of its process; `places`, the places of
+/// that, each by its facts of control, with the variables in scope, and by the labels of its open locks; `size`, its nodes and
+/// levels; `whole` or `behind`, bindings, and the instance of the process or of what follows a first input or new name.
+pub fn files_row(page: &mut Page, sig: &Signature, row: &str) {
+    let bytes = file_bytes(page.alloc, part(row, 1));
+    match read_file_boxed(page.alloc, bytes.as_bytes()) {
+        Ok(file) => show_kind(page, sig, &file, row),
+        Err(_) => page.fail(),
+    }
+}
