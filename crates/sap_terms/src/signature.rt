@@ -17,7 +17,7 @@ pub struct Symbol {
 }
 
 /// Symbols that are added together with the equations between them.
-#[derive(Clone, Copy, Debug, PartialEq, Eq)]
+#[derive(Clone, Copy)]
 pub enum Builtin {
     /// `h/1`, without equations.
     Hashing,
@@ -179,58 +179,37 @@ fn held<'a>(symbols: &'a Named<Symbol>, name: &Name) -> Option<&'a Symbol>
     symbols.named(name)
 }
 
-// Puts a public symbol of this name and arity last.
-fn push_public(
-    alloc: Global,
-    symbols: &mut Named<Symbol>,
-    name: &[u8],
-    arity: u64,
-) -> Result<(), Mem>
-    ensures { OnOk result (symbols.new ≡ symbols.old ++ public_symbol name.now arity ∷ []) }
-{
-    let name = Name::from_bytes(alloc, name)?;
-    symbols.push(Symbol {
-        name,
-        arity,
-        private: false,
-    })
-}
-
 // Public symbols of these names and arities, in order.
 fn public_symbols(alloc: Global, rows: &[(&[u8], u64)]) -> Result<Named<Symbol>, Mem>
     ensures { IfOk result (λ ss. ss ≡ map (λ row. public_symbol row.0.now row.1) rows.now) }
 {
     let mut symbols = Named::new(alloc);
     for row in rows {
-        push_public(alloc, &mut symbols, row.0, row.1)?;
+        symbols.push(Symbol {
+            name: Name::from_bytes(alloc, row.0)?,
+            arity: row.1,
+            private: false,
+        })?;
     }
     Ok(symbols)
 }
 
-// A builtin's symbols, in order.
-fn symbols_of(alloc: Global, b: Builtin) -> Result<Named<Symbol>, Mem>
-    ensures { IfOk result (λ ss. ss ≡ builtin_symbols b) }
+// The names and arities of a builtin's symbols, in order.
+fn rows_of(b: Builtin) -> &'static [(&'static [u8], u64)]
+    ensures { map (λ row. public_symbol row.0.now row.1) result.now ≡ builtin_symbols b }
 {
     match b {
-        Builtin::Hashing => public_symbols(alloc, &[(b"h", 1)]),
-        Builtin::Symmetric => public_symbols(alloc, &[(b"senc", 2), (b"sdec", 2)]),
-        Builtin::Asymmetric => { public_symbols(alloc, &[(b"aenc", 2), (b"adec", 2), (b"pk", 1)]) }
-        Builtin::Signing => {
-            public_symbols(
-                alloc,
-                &[(b"sign", 2), (b"verify", 3), (b"pk", 1), (b"true", 0)],
-            )
-        }
-        Builtin::RevealingSigning => public_symbols(
-            alloc,
-            &[
-                (b"revealSign", 2),
-                (b"revealVerify", 3),
-                (b"getMessage", 1),
-                (b"pk", 1),
-                (b"true", 0),
-            ],
-        ),
+        Builtin::Hashing => &[(b"h", 1)],
+        Builtin::Symmetric => &[(b"senc", 2), (b"sdec", 2)],
+        Builtin::Asymmetric => &[(b"aenc", 2), (b"adec", 2), (b"pk", 1)],
+        Builtin::Signing => &[(b"sign", 2), (b"verify", 3), (b"pk", 1), (b"true", 0)],
+        Builtin::RevealingSigning => &[
+            (b"revealSign", 2),
+            (b"revealVerify", 3),
+            (b"getMessage", 1),
+            (b"pk", 1),
+            (b"true", 0),
+        ],
     }
 }
 
@@ -363,7 +342,7 @@ impl Signature {
             return Ok(());
         }
         let alloc = self.symbols.allocator();
-        let added = symbols_of(alloc, b)?;
+        let added = public_symbols(alloc, rows_of(b))?;
         join(&mut self.symbols, added)?;
         self.builtins = self.builtins.including(b);
         Ok(())

@@ -7,6 +7,7 @@ use crate::{Copied, Mem, Name, Var};
 use std::alloc::Global;
 use std::hash::{Hash, Hasher};
 use std::marker::Model;
+use std::mem;
 use std::rc::Rc;
 
 /// A term of the symbolic model. Contracts see it as a plain tree, by `tree` of the specs' `View`.
@@ -67,19 +68,41 @@ fn copies(alloc: Global, ts: &[Term]) -> Result<Vec<Term>, Mem>
     Ok(items)
 }
 
+// These terms and this one, in a list that nothing else shares.
+fn with_last(alloc: Global, items: Vec<Term>, item: Term) -> Result<Rc<Vec<Term>>, Mem>
+    ensures { IfOk result (λ r. r.value.items ≡ items.items ++ item ∷ []) }
+{
+    let mut items = items;
+    items.push(item)?;
+    Ok(Rc::new(alloc, items)?)
+}
+
+// Copies of these terms, and this one.
+fn copies_with(alloc: Global, ts: &[Term], item: Term) -> Result<Rc<Vec<Term>>, Mem>
+    ensures { IfOk result (λ r. r.value.items ≡ ts.now ++ item ∷ []) }
+{
+    match copies(alloc, ts) {
+        Ok(items) => with_last(alloc, items, item),
+        Err(e) => {
+            drop(item);
+            Err(e)
+        }
+    }
+}
+
 // Puts the term last, where no other list has these terms in place, else in a list of its own.
 fn push_on(alloc: Global, shared: &mut Rc<Vec<Term>>, item: Term) -> Result<(), Mem>
     ensures ok { OnOk result (shared.new.value.items ≡ shared.old.value.items ++ item ∷ []) }
     ensures err { OnErr result (shared.new.value.items ≡ shared.old.value.items) }
 {
-    if let Some(items) = Rc::get_mut(shared) {
-        items.push(item)?;
-        return Ok(());
+    match Rc::get_mut(shared) {
+        Some(items) => Ok(items.push(item)?),
+        None => {
+            let longer = copies_with(alloc, shared.as_slice(), item)?;
+            drop(mem::replace(shared, longer));
+            Ok(())
+        }
     }
-    let mut items = copies(alloc, shared.as_slice())?;
-    items.push(item)?;
-    *shared = Rc::new(alloc, items)?;
-    Ok(())
 }
 
 impl TermList {
@@ -125,13 +148,14 @@ impl TermList {
         ensures err { OnErr result (self.new ≡ self.old) }
     {
         let alloc = self.alloc;
-        if let Some(shared) = &mut self.shared {
-            return push_on(alloc, shared, item);
+        match &mut self.shared {
+            Some(shared) => push_on(alloc, shared, item),
+            None => {
+                let first = with_last(alloc, Vec::new(alloc), item)?;
+                drop(mem::replace(&mut self.shared, Some(first)));
+                Ok(())
+            }
         }
-        let mut items = Vec::new(alloc);
-        items.push(item)?;
-        self.shared = Some(Rc::new(alloc, items)?);
-        Ok(())
     }
 
     /// The number of terms.
@@ -277,14 +301,13 @@ impl Copied for Term {
 
 impl Copied for TermList {
     fn copy(&self, _alloc: Global) -> Result<TermList, Mem> {
-        let shared = match &self.shared {
-            Some(items) => Some(items.clone()?),
-            None => None,
-        };
-        Ok(TermList {
-            alloc: self.alloc,
-            shared,
-        })
+        match &self.shared {
+            Some(items) => Ok(TermList {
+                alloc: self.alloc,
+                shared: Some(items.clone()?),
+            }),
+            None => Ok(TermList::new(self.alloc)),
+        }
     }
 }
 
