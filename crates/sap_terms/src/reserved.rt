@@ -6,17 +6,12 @@ ghost use Rattle.sap_terms.specs.Reserved.{is_reserved};
 
 use crate::Name;
 
-const RESERVED_WORDS: [&str; 19] = [
-    "Init", "Event", "Eq", "NotEq", "Insert", "Delete", "IsIn", "IsNotSet", "Lock", "Unlock",
-    "InEvent", "Msg", "Ack", "Fr", "In", "Out", "K", "KU", "KD",
-];
-
 // Whether the name is one of the words.
-fn is_one(name: &Name, words: &[&str]) -> bool
+fn is_one(name: &Name, words: &[&[u8]]) -> bool
     ensures { result ≡ list_any (λ word. bytes_eq name.now word.now) words.now }
 {
     for word in words {
-        if name.is(word.as_bytes()) {
+        if name.is(word) {
             return true;
         }
     }
@@ -27,8 +22,29 @@ fn is_one(name: &Name, words: &[&str]) -> bool
 pub fn is_reserved(name: &Name) -> bool
     ensures { result ≡ is_reserved name.now }
 {
-    let words: [&str; 19] = RESERVED_WORDS;
-    is_one(name, words.as_slice())
-        || name.as_bytes().starts_with(b"State_")
+    is_one(
+        name,
+        &[
+            b"Init",
+            b"Event",
+            b"Eq",
+            b"NotEq",
+            b"Insert",
+            b"Delete",
+            b"IsIn",
+            b"IsNotSet",
+            b"Lock",
+            b"Unlock",
+            b"InEvent",
+            b"Msg",
+            b"Ack",
+            b"Fr",
+            b"In",
+            b"Out",
+            b"K",
+            b"KU",
+            b"KD",
+        ],
+    ) || name.as_bytes().starts_with(b"State_")
         || name.as_bytes().starts_with(b"Semi_")
 }

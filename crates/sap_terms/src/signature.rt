@@ -1,5 +1,5 @@
 //! Signatures: which symbols are held, and the equations between them.
-ghost use Rattle.std.specs.Prelude.{◌≡◌, ℕ, ◌↔◌, List, [], ◌∷◌, ◌++◌, IsTrue, IsErrOf, OnOk, OnErr, IfOk, MatchOption, option_map, slice_get, map, length, take, None, Some, false};
+ghost use Rattle.std.specs.Prelude.{◌≡◌, ℕ, ◌↔◌, List, IsTrue, IsErrOf, OnOk, OnErr, IfOk, MatchOption, option_map, slice_get, map, length, take, None, Some, false};
 ghost use Rattle.std.specs.Option.{option_copied};
 ghost use Rattle.sap_terms.specs.Signature.{Sig, find_symbol, arity_of, IsPublic, Clashes, declared, has_builtin, is_destructor_of, builtin_symbols, public_symbol, declared_all, is_held_otherwise, first_clash, added, pairs_alone, IsMap, IsFirstClash, HoldsBuiltins};
 ghost use Rattle.sap_terms.specs.declared.signature.SigFault.TheVariants.{Mem as OutOfMemory};
@@ -277,19 +277,19 @@ fn declare_all(symbols: &mut Named<Symbol>, added: &Named<Symbol>) -> Result<(),
 
 // Puts copies of these symbols last, one after another, where their names are not held; where one of these is held
 // otherwise, a clash at the first that is. Refused, the symbols are as they were.
-fn join(symbols: &mut Named<Symbol>, added: Named<Symbol>) -> Result<(), SigFault>
-    ensures ok { OnOk result (symbols.new ≡ declared_all symbols.old added) }
-    ensures no_clash { OnOk result (first_clash symbols.old added ≡ None) }
-    ensures clash { (n : List ℕ) → IsErrOf result (SigFault.Clash n) → first_clash symbols.old added ≡ Some n }
+fn join(symbols: &mut Named<Symbol>, added: &Named<Symbol>) -> Result<(), SigFault>
+    ensures ok { OnOk result (symbols.new ≡ declared_all symbols.old added.now) }
+    ensures no_clash { OnOk result (first_clash symbols.old added.now ≡ None) }
+    ensures clash { (n : List ℕ) → IsErrOf result (SigFault.Clash n) → first_clash symbols.old added.now ≡ Some n }
     ensures err { OnErr result (symbols.new ≡ symbols.old) }
 {
-    match first_clash(symbols, &added) {
+    match first_clash(symbols, added) {
         Some(k) => {
-            let symbol = added.into_item(k);
-            Err(SigFault::Clash { name: symbol.name })
+            let name = added.at(k).name.copy(symbols.allocator())?;
+            Err(SigFault::Clash { name })
         }
         None => {
-            declare_all(symbols, &added)?;
+            declare_all(symbols, added)?;
             Ok(())
         }
     }
@@ -343,7 +343,7 @@ impl Signature {
         }
         let alloc = self.symbols.allocator();
         let added = public_symbols(alloc, rows_of(b))?;
-        join(&mut self.symbols, added)?;
+        join(&mut self.symbols, &added)?;
         self.builtins = self.builtins.including(b);
         Ok(())
     }

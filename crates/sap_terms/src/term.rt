@@ -3,6 +3,7 @@ ghost use Rattle.std.specs.Prelude.{◌≡◌, ◌<◌, ◌↔◌, [], ◌∷◌
 ghost use Rattle.std.specs.Option.{option_copied};
 ghost use Rattle.sap_terms.specs.Same.{same_tree};
 
+use crate::items::push_copies;
 use crate::{Copied, Mem, Name, Var};
 use std::alloc::Global;
 use std::hash::{Hash, Hasher};
@@ -62,9 +63,7 @@ fn copies(alloc: Global, ts: &[Term]) -> Result<Vec<Term>, Mem>
     ensures { IfOk result (λ v. v.items ≡ ts.now) }
 {
     let mut items = Vec::with_capacity(alloc, ts.len() + 1)?;
-    for t in ts {
-        items.push(t.copy(alloc)?)?;
-    }
+    push_copies(alloc, &mut items, ts)?;
     Ok(items)
 }
 
