@@ -1,7 +1,7 @@
-use Rattle.std.proofs.Common.{◌≡◌, ℕ, Option, subst}
+use Rattle.std.proofs.Common.{◌≡◌, ℕ, Option, None, Some, subst}
 use Rattle.std.specs.Prelude.{IfSome}
 use Rattle.sap_outside.specs.Stream.{Stream}
-use Rattle.sap_answer.specs.Answer.{Answer, HasText, IsDelivered, no_memory}
+use Rattle.sap_answer.specs.Answer.{Answer, gives, tells, HasText, IsDelivered, no_memory}
 use Rattle.sap_answer.specs.Endings.{answer_of}
 use Rattle.sap_answer.proofs.Appending.{nothing_put, memory_is}
 use Rattle.sap_answer.proofs.delivering.deliver.Goals as goal
@@ -13,15 +13,16 @@ same a b out err status = subst (λ (x : Option Answer). IfSome x HasText → Is
 
 pub returns-in-Some-Out : goal.returns-in-Some-Out
 returns-in-Some-Out g c =
-    same _ (answer_of c.args.ending.now) _ _ _ (rw c.in-Some-Out.field-0-is at c.in-Some-Out.ensures) (λ has. c.give.ensures)
+    same (Some (gives c.in-Some-Out.text.now)) (answer_of c.args.ending.now) _ _ _
+    (rw c.in-Some-Out.field-0-is at c.in-Some-Out.ensures) (λ has. c.give.ensures)
 
 pub returns-in-Some-Err : goal.returns-in-Some-Err
 returns-in-Some-Err g c =
-    same _ (answer_of c.args.ending.now) _ _ _ (rw c.in-Some-Err.field-0-is at c.in-Some-Err.ensures)
-    (λ has. c.tell.ensures _ (nothing_put _ _) has)
+    same (Some (tells c.in-Some-Err.status c.in-Some-Err.text.now)) (answer_of c.args.ending.now) _ _ _
+    (rw c.in-Some-Err.field-0-is at c.in-Some-Err.ensures) (λ has. c.tell.ensures _ (nothing_put _ _) has)
 
 pub returns-in-None : goal.returns-in-None
 returns-in-None g c =
     let word = c.last_word.ensures in
-    same _ (answer_of c.args.ending.now) _ _ _ c.in-None.ensures
+    same None (answer_of c.args.ending.now) _ _ _ c.in-None.ensures
     (λ has. no_memory word.ends.0 word.status (nothing_put _ _) (word.ends.1, word.asked memory_is) word.ends.2)
