@@ -1,6 +1,6 @@
 use Rattle.std.proofs.Common.{rules, inl, inr}
-use Rattle.sap_tool.proofs.Appending.{word_whole, word_cut}
-use Rattle.sap_tool.proofs.top.last_word.Goals as goal
+use Rattle.sap_answer.proofs.Appending.{word_whole, word_cut}
+use Rattle.sap_answer.proofs.delivering.last_word.Goals as goal
 
 pub returns-in-Ok-clause-ends : goal.returns-in-Ok-clause-ends
 returns-in-Ok-clause-ends g c = word_whole _ _ _ _ c.in-Ok.ensures.whole

@@ -1,6 +1,6 @@
 //! Why a file, or a run, has no text.
 ghost use Rattle.std.specs.Prelude.{◌≡◌, ℕ, List, Ok};
-ghost use Rattle.sap_refusals.specs.declared.refusal.Refusal.TheVariants as refusals;
+ghost use Rattle.sap_answer.specs.declared.refusal.Refusal.TheVariants as refusals;
 
 use sap_terms::Mem;
 use sap_text::Text;
@@ -16,7 +16,7 @@ pub enum Refusal {
 
 impl From<Mem> for Refusal {
     ghost use Rattle.std.specs.Prelude.{◌≡◌};
-    ghost use Rattle.sap_refusals.specs.declared.refusal.Refusal.TheVariants.{Mem as OutOfMemory};
+    ghost use Rattle.sap_answer.specs.declared.refusal.Refusal.TheVariants.{Mem as OutOfMemory};
 
     ghost from_gives = { λ _ e. e ≡ OutOfMemory };
 

@@ -3,8 +3,8 @@ use Rattle.std.proofs.Common.{◌≡◌, ◌≢◌, ◌≤◌, ℕ, List, [], ta
 use Rattle.std.proofs.KnownBytes.{Appends-nil}
 use Rattle.std.specs.Io.KnownBytes.{Appends}
 use Rattle.sap_outside.specs.Outside.{Rose, RoseTwice, AppendsSome, more}
-use Rattle.sap_tool.proofs.Rises.{rose_later, rose_twice, rose_before}
-use Rattle.sap_tool.specs.Answers.{IsLast, complete, cut, usage_text, read_fault_text, write_fault_text, memory_text}
+use Rattle.sap_answer.proofs.Rises.{rose_later, rose_twice, rose_before}
+use Rattle.sap_answer.specs.Answer.{IsLast, complete, cut, usage_text, read_fault_text, write_fault_text, memory_text}
 
 -- nothing was put
 pub nothing_put : (told : Option (List ℕ)) (asked : Option ℕ) → Appends told told [] × (asked ≡ more 0 asked)

@@ -1,9 +1,9 @@
 //! What a call ends with.
 ghost use Rattle.std.specs.Prelude.{◌≡◌};
-ghost use Rattle.sap_tool.specs.code.Endings.{ending_of, file_ending_of, refused_ending, unread_ending, written_ending};
+ghost use Rattle.sap_answer.specs.Endings.{ending_of, file_ending_of, refused_ending, unread_ending, written_ending};
 
+use crate::refusal::Refusal;
 use sap_outside::ShelfFault;
-use sap_refusals::Refusal;
 use sap_terms::Mem;
 use sap_text::Text;
 

@@ -1,10 +1,10 @@
 use Rattle.std.proofs.Common.{rules, ap, ◌∙◌}
 use Rattle.std.proofs.KnownBytes.{Appends-trans}
-use Rattle.sap_tool.specs.Answers.{broken, wanting}
+use Rattle.sap_answer.specs.Answer.{broken, wanting}
 use Rattle.sap_outside.specs.Outside.{one_more}
-use Rattle.sap_tool.proofs.Rises.{rose_later}
-use Rattle.sap_tool.proofs.Appending.{last_of, cut_after_fault, cut_after_want, write_fault_is, memory_is}
-use Rattle.sap_tool.proofs.top.tell.Goals as goal
+use Rattle.sap_answer.proofs.Rises.{rose_later}
+use Rattle.sap_answer.proofs.Appending.{last_of, cut_after_fault, cut_after_want, write_fault_is, memory_is}
+use Rattle.sap_answer.proofs.delivering.tell.Goals as goal
 
 pub returns-in-Err-Failed : goal.returns-in-Err-Failed
 returns-in-Err-Failed g c = λ out none some.

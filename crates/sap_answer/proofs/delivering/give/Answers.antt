@@ -1,7 +1,7 @@
 use Rattle.std.proofs.Common.{rules, refl}
-use Rattle.sap_tool.specs.Answers.{whole, broken, wanting}
-use Rattle.sap_tool.proofs.Appending.{nothing_put, write_fault_is, memory_is}
-use Rattle.sap_tool.proofs.top.give.Goals as goal
+use Rattle.sap_answer.specs.Answer.{whole, broken, wanting}
+use Rattle.sap_answer.proofs.Appending.{nothing_put, write_fault_is, memory_is}
+use Rattle.sap_answer.proofs.delivering.give.Goals as goal
 
 pub returns-in-Ok : goal.returns-in-Ok
 returns-in-Ok g c = whole refl (c.in-Ok.ensures.whole, nothing_put _ _)
