@@ -213,30 +213,23 @@ fn build_in(
 {
     let form = form_of(defs, index, source);
     match below(form) {
-        Below::Nothing => {
-            let made = ended(alloc)?;
-            Ok(made)
-        }
+        Below::Nothing => ended(alloc),
         Below::Use(name, args) => match reached(alloc, defs, index, s, chosen, name, args)? {
-            None => {
-                let made = ended(alloc)?;
-                Ok(made)
-            }
+            None => ended(alloc),
             Some((inner, at)) => {
-                let made = build_in(alloc, defs, index, &inner, chosen, at)?;
-                Ok(made)
+                let made = build_in(alloc, defs, index, &inner, chosen, at);
+                drop(inner);
+                made
             }
         },
         Below::One(p) => {
             let next = build_in(alloc, defs, index, s, chosen, p)?;
-            let made = over_one(alloc, s, form, next)?;
-            Ok(made)
+            over_one(alloc, s, form, next)
         }
         Below::Two(p, q) => {
             let left = build_in(alloc, defs, index, s, chosen, p)?;
             let right = build_in(alloc, defs, index, s, chosen, q)?;
-            let made = over_two(alloc, s, form, left, right)?;
-            Ok(made)
+            over_two(alloc, s, form, left, right)
         }
     }
 }
@@ -255,8 +248,9 @@ fn build_with(
         ≡ (expansion (definitions defs.now) chosen.old (written main.now)).process) }
 {
     let first = nothing_put(alloc);
-    let made = build_in(alloc, defs, index, &first, chosen, main)?;
-    Ok(made)
+    let made = build_in(alloc, defs, index, &first, chosen, main);
+    drop(first);
+    made
 }
 
 // The same, where these are the names of the file.

@@ -10,6 +10,7 @@ ghost use Rattle.sap_process.specs.declared.flaw.Ill.TheVariants.{At};
 
 use crate::Process;
 use crate::flaw::{Flaw, Ill};
+use crate::joining::unboxed;
 use crate::scope::Scope;
 use crate::sorting::sorted;
 use crate::walk::first_flaw;
@@ -29,7 +30,7 @@ pub fn well_formed(alloc: Global, sig: &Signature, p: &Process) -> Result<Proces
     ensures well { IfOk result (λ q. IsReady sig.now (proc q)) }
     ensures flawed { (which : Flaw) (path : List ℕ) → IsErrOf result (At which path) → IsFirstFlaw sig.now (proc p.now) which path }
 {
-    Ok(Box::into_inner(well_formed_boxed(alloc, sig, p)?))
+    unboxed(well_formed_boxed(alloc, sig, p))
 }
 
 /// The same, in a box.
@@ -75,6 +76,5 @@ fn flaw_that_counts(
     ensures { IfOk result (λ o. IsCounted sig.now (proc p.now) o) }
 {
     let nothing = Vars::new(alloc);
-    let found = first_flaw(alloc, sig, &nothing, p, flaws)?;
-    Ok(found)
+    first_flaw(alloc, sig, &nothing, p, flaws)
 }
