@@ -1,7 +1,8 @@
 -- What isn't a chart, tried by hand.
-use Rattle.std.proofs.Common.{◌≡◌, ℕ, true≢false, codes, List, [], ◌∷◌, ◌++◌, length, get_or, nat_eq, Some, None, refl, sym, ap, ◌∙◌, arith}
+use Rattle.std.proofs.Common.{◌≡◌, ℕ, true, true≢false, codes, List, [], ◌∷◌, ◌++◌, length, get_or, nat_eq, Some, None, refl, sym, ap, ◌∙◌, arith}
 use Rattle.std.proofs.Common.{length-append}
 use Rattle.std.specs.Fmt.{digits}
+use Rattle.std.specs.List.{list_all}
 use Rattle.std.specs.Str.{bytes_eq}
 use Rattle.sap_lines.specs.Lines as lines
 use Rattle.sap_process.specs.Action.{new}
@@ -14,16 +15,18 @@ use Rattle.sap_runs.specs.declared.process_step.PStep.TheVariants as line
 use Rattle.sap_terms.specs.Signature.{Sig}
 use Rattle.sap_terms.specs.Trace.{Trace}
 use Rattle.sap_terms.specs.Tree.{Tree, fresh, public}
-use Rattle.sap_tell.specs.Escaped.{escaped_byte}
+use Rattle.sap_tell.specs.Escaped.{escaped, escaped_byte, is_no_mark}
 use Rattle.sap_tell.specs.Told as told
 use Rattle.sap_tell.specs.ToldExamples.{fresh_n}
 use Rattle.sap_chart.specs.Chart as drawn
 use Rattle.sap_chart.specs.Chart.{IsChart, IsDrawnRun}
-use Rattle.sap_chart.specs.ChartExamples.{empty_chart, in_row, out_row, two_lifelines, two_rows}
+use Rattle.sap_chart.specs.ChartExamples.{empty_chart, in_row, out_row, row_left_out, two_lifelines, two_rows}
 use Rattle.sap_chart.specs.ChartText.{chart_text, row_text}
 use Rattle.sap_chart.specs.Rows.{Row}
+use Rattle.sap_chart.specs.Titles.{row_titles}
 use Rattle.sap_chart.specs.WellFormed.{IsDocument, document}
 use Rattle.sap_chart.specs.declared.figure.Figure.TheVariants as figure
+use Rattle.sap_chart.proofs.AllRows.{all_rows}
 
 -- the run with no line has no row
 no_rows : {g : Sig} {p : Proc} {lines : List PStep} {c : Config} {es : List Tree} {tr : Trace} {marks : List Mark} {rows : List Row}
@@ -113,3 +116,11 @@ third_drawn g = drawn.further {lines = line.New 0 7 ∷ line.Nil 0 ∷ []} (line
 pub three_lines : (g : Sig) → IsChart g one_thread (line.New 0 7 ∷ line.Nil 0 ∷ line.Public (codes "a") ∷ []) [] two_rows
 unfolding digits escaped_byte
 three_lines g = record { config = ended; entries = public (codes "a") ∷ []; marks = []; rows = first_row ∷ last_row ∷ []; drawn = third_drawn g; written = refl }
+
+-- with a row left out it isn't their chart: two of them are drawn, and there is one title
+pub left_out : ((z : List ℕ) → list_all is_no_mark (escaped z) ≡ true) → (g : Sig) (tr : Trace)
+    → ¬ IsChart g one_thread (line.New 0 7 ∷ line.Nil 0 ∷ line.Public (codes "a") ∷ []) tr row_left_out
+left_out marks g tr h =
+    let two : length (row_titles row_left_out) ≡ 2 = all_rows marks g one_thread _ tr row_left_out h in
+    let one : length (row_titles row_left_out) ≡ 1 = refl in
+    absurd (true≢false (ap (λ n. nat_eq n 1) (sym one ∙ two)))

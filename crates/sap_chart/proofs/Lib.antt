@@ -9,3 +9,6 @@ mod Formed
 mod ChartsByHand
 mod OneChart
 mod NoDocuments
+mod OneLifeline
+mod ReadBack
+mod AllRows

@@ -5,7 +5,7 @@ use Rattle.std.specs.Fmt.{digit_glyph, digits, digits_onto}
 use Rattle.std.specs.List.{list_all, list_any}
 use Rattle.sap_tell.specs.Escaped as byte
 use Rattle.sap_tell.specs.Escaped.{escaped, has_meaning, is_no_mark, IsWrittenByte, StandsFor}
-use Rattle.sap_chart.specs.WellFormed.{AttributesThen, ContentThen, IsDocument, PlainThen, attribute, content_ends, document, element, empty, is_attribute_name, is_letter, is_name, is_name_byte, itself, no_more, number, plain, plain_ends, written}
+use Rattle.sap_chart.specs.WellFormed.{AttributesThen, ContentThen, IsDocument, PlainThen, attribute, content_ends, document, element, empty, is_attribute_name, is_letter, is_name, itself, no_more, number, plain, plain_ends, written}
 
 never : (b : Bool) → (b && false) ≡ true → ⊥
 never true e = true≢false (sym e)
@@ -46,7 +46,7 @@ onto_plain (suc k) n acc h =
     at true x y = x
     at false x y = y
 
-number_plain : (n : ℕ) → list_any has_meaning (decimal n) ≡ false
+pub number_plain : (n : ℕ) → list_any has_meaning (decimal n) ≡ false
 unfolding digits
 number_plain n = onto_plain 64 n [] refl
 
@@ -156,6 +156,13 @@ module _ (marks : (z : List ℕ) → list_all is_no_mark (escaped z) ≡ true) (
   content_ampersand (empty name ok a h) w e = absurd (apart 60 38 _ (60 ∷ w) refl refl e)
   content_ampersand (element name ok a i h) w e = absurd (apart 60 38 _ (60 ∷ w) refl refl e)
 
+  -- and before `>`
+  content_greater : {s r : List ℕ} → ContentThen s r → (w : List ℕ) → s ≡ 62 ∷ w → r ≡ s
+  content_greater (content_ends r) w e = refl
+  content_greater (plain p h) w e = let first = plain_opening p 62 w refl refl e in content_greater h w (first ∙ e) ∙ first
+  content_greater (empty name ok a h) w e = absurd (apart 60 62 _ w refl refl e)
+  content_greater (element name ok a i h) w e = absurd (apart 60 62 _ w refl refl e)
+
   -- and before the end of an element
   content_closing : {s r : List ℕ} → ContentThen s r → (w : List ℕ) → s ≡ 60 ∷ 47 ∷ w → r ≡ s
   content_closing (content_ends r) w e = refl
@@ -189,6 +196,15 @@ module _ (marks : (z : List ℕ) → list_all is_no_mark (escaped z) ≡ true) (
       let inside : u ≡ codes "&</a>\n" = behind_first 62 62 u (codes "&</a>\n") rest in
       let end = content_ampersand c (codes "/a>\n") inside ∙ inside in
       apart 60 38 (47 ∷ (name ++ codes ">\n")) (codes "</a>\n") refl refl end
+
+  not_greater : {t : List ℕ} → IsDocument t → t ≡ codes "<a>></a>\n" → ⊥
+  not_greater (document {t = t} {u = u} name ok a c) e =
+      let same : name ++ t ≡ codes "a>></a>\n" = behind_first 60 60 (name ++ t) (codes "a>></a>\n") e in
+      let behind = one_letter name t (codes "></a>\n") 97 ok same in
+      let rest = no_attributes a (codes "></a>\n") behind.1 ∙ behind.1 in
+      let inside : u ≡ codes "></a>\n" = behind_first 62 62 u (codes "></a>\n") rest in
+      let end = content_greater c (codes "</a>\n") inside ∙ inside in
+      apart 60 62 (47 ∷ (name ++ codes ">\n")) (codes "</a>\n") refl refl end
 
   not_unclosed : {t : List ℕ} → IsDocument t → t ≡ codes "<a><b></a>\n" → ⊥
   not_unclosed (document {t = t} {u = u} name ok a c) e =
@@ -232,6 +248,9 @@ module _ (marks : (z : List ℕ) → list_all is_no_mark (escaped z) ≡ true) (
 
   pub ampersand : ¬ IsDocument (codes "<a>&</a>\n")
   ampersand h = not_ampersand h refl
+
+  pub greater : ¬ IsDocument (codes "<a>></a>\n")
+  greater h = not_greater h refl
 
   pub unclosed : ¬ IsDocument (codes "<a><b></a>\n")
   unclosed h = not_unclosed h refl

@@ -86,11 +86,11 @@ one_chart laws g p ls tr ur text other hold ready x y =
     let r = one_drawing laws g p hold ready x.drawn y.drawn refl in
     x.written ∙ ap chart_text r.same_rows ∙ sym y.written
 
--- threads that only begin or end show nothing and add nothing
+-- threads that only begin or end do nothing inside, show nothing and add nothing
 pub bare : LinesWithoutRowsAreBare
-bare g c _ es _ _ _ _ (lines.ends t r) none = (refl, refl)
-bare g c _ es _ _ _ _ (lines.splits t r) none = (refl, refl)
-bare g c _ es _ _ _ _ (lines.copies t r) none = (refl, refl)
+bare g c _ es _ _ _ _ (lines.ends t r) none = (refl, refl, refl)
+bare g c _ es _ _ _ _ (lines.splits t r) none = (refl, refl, refl)
+bare g c _ es _ _ _ _ (lines.copies t r) none = (refl, refl, refl)
 bare g c _ es _ _ _ _ (lines.makes_name t n r u) none = absurd (cc)
 bare g c _ es _ _ _ _ (lines.outputs t r f w) none = absurd (cc)
 bare g c _ es _ _ _ _ (lines.outputs_on t k r e f h w) none = absurd (cc)

@@ -1,5 +1,6 @@
 -- What is so of charts.
-use Rattle.std.specs.Prelude.{◌≡◌, ℕ, List, [], None}
+use Rattle.std.specs.Prelude.{◌≡◌, ℕ, Bool, nat_eq, List, [], length, map, is_some, None, count_by, if◌then◌else◌}
+use Rattle.std.specs.List.{list_any}
 use Rattle.sap_lines.specs.Lines.{IsProcessLine}
 use Rattle.sap_lines.specs.Runs.{IsLegalProcessRun}
 use Rattle.sap_process.specs.Configuration.{Config}
@@ -14,7 +15,9 @@ use Rattle.sap_terms.specs.Trace.{Trace}
 use Rattle.sap_terms.specs.Tree.{Tree}
 use Rattle.sap_terms.specs.declared.fact.Fact.{Fact}
 use Rattle.sap_chart.specs.Chart.{IsChart}
-use Rattle.sap_chart.specs.Rows.{figure_of}
+use Rattle.sap_chart.specs.ChartText.{chart_text, drawn_threads, lifelines}
+use Rattle.sap_chart.specs.Rows.{Row, figure_of, threads_of}
+use Rattle.sap_chart.specs.Titles.{StandForEach, row_titles}
 
 -- what has a chart is a legal run of the process within the limit, which shows this
 abbrev pub DrawnRunsAreLegal : Type 0
@@ -34,8 +37,38 @@ RunsAreDrawnByOneChart =
     (g : Sig) (p : Proc) (lines : List PStep) (tr ur : Trace) (text other : List ℕ) → HoldsBuiltins g
     → IsReady g p → IsChart g p lines tr text → IsChart g p lines ur other → text ≡ other
 
--- a possible line without a row shows no fact and adds no entry
+-- a possible line without a row does nothing inside, shows no fact and adds no entry
 abbrev pub LinesWithoutRowsAreBare : Type 0
 LinesWithoutRowsAreBare =
     (g : Sig) (c d : Config) (es fs : List Tree) (step : PStep) (inner : List InnerAction) (label : List Fact)
-    → IsProcessLine g HasFewNodes c es step inner label d fs → figure_of step ≡ None → (label ≡ []) × (fs ≡ es)
+    → IsProcessLine g HasFewNodes c es step inner label d fs → figure_of step ≡ None → (inner ≡ []) × (label ≡ []) × (fs ≡ es)
+
+-- whether a line has a figure; whether a thread is in that of one of these rows; the lines that they tell
+abbrev pub has_figure : PStep → Bool
+has_figure step = is_some (figure_of step)
+
+abbrev pub acts_in : List Row → ℕ → Bool
+acts_in rows t = list_any (λ (r : Row). list_any (nat_eq t) (threads_of r.figure)) rows
+
+abbrev pub told_lines : List Row → List (List ℕ)
+told_lines rows = map (λ (r : Row). r.told) rows
+
+-- a chart has as many rows' titles as the run has lines with a figure
+abbrev pub EachLineWithAFigureHasARow : Type 0
+EachLineWithAFigureHasARow =
+    (g : Sig) (p : Proc) (lines : List PStep) (tr : Trace) (text : List ℕ) → IsChart g p lines tr text
+    → length (row_titles text) ≡ count_by has_figure lines
+
+-- each thread that is in the figure of a row has one lifeline, and no other thread has one
+abbrev pub ThreadsHaveOneLifeline : Type 0
+ThreadsHaveOneLifeline =
+    (rows : List Row) (t : ℕ) → count_by (nat_eq t) (drawn_threads (lifelines rows)) ≡ (if acts_in rows t then 1 else 0)
+
+-- the lines that rows tell are read back from the titles of their chart, whatever bytes they have
+abbrev pub ToldLinesAreReadBack : Type 0
+ToldLinesAreReadBack = (rows : List Row) → StandForEach (row_titles (chart_text rows)) (told_lines rows)
+
+-- so equal charts are of rows that tell the same lines
+abbrev pub EqualChartsTellTheSame : Type 0
+EqualChartsTellTheSame =
+    (rows others : List Row) → chart_text rows ≡ chart_text others → told_lines rows ≡ told_lines others

@@ -1,6 +1,7 @@
 pub mod Rows
 pub mod ChartText
 pub mod Chart
+pub mod Titles
 pub mod ChartLaws
 pub mod WellFormed
 pub mod ChartExamples

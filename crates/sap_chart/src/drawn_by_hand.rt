@@ -7,9 +7,10 @@ ghost use Rattle.sap_terms.specs.Signature.{Sig};
 ghost use Rattle.sap_terms.specs.Trace.{Trace};
 ghost use Rattle.sap_tell.specs.ToldExamples.{fresh_n, hi, key};
 ghost use Rattle.sap_chart.specs.Chart.{IsChart};
-ghost use Rattle.sap_chart.specs.ChartExamples.{empty_chart, in_row, later_row, long_row, made_row, met_row, out_row, two_lifelines, two_rows};
+ghost use Rattle.sap_chart.specs.ChartExamples.{empty_chart, in_row, later_row, long_row, made_row, met_row, out_row, row_left_out, two_lifelines, two_rows};
 ghost use Rattle.sap_chart.specs.ChartText.{arrow_text, figure_text, head_text, lifelines, row_text};
 ghost use Rattle.sap_chart.specs.Rows.{new_entry, rows_of, shortened};
+ghost use Rattle.sap_chart.specs.Titles.{row_titles};
 ghost use Rattle.sap_chart.specs.WellFormed.{IsDocument};
 ghost use Rattle.sap_chart.specs.declared.figure.Figure.TheVariants as figure;
 
@@ -17,9 +18,9 @@ use sap_tell::escaped_stands_for_one;
 
 /// Rows of a run of the key server, drawn: an event, what is put out, what is taken, a lock, two that meet, a label of 61 bytes; a
 /// thread is named by where it first does something; an arrow over eight columns and one over nine; the chart of the run with no line,
-/// and of one of three lines, of which one has no row; and what isn't drawn so: an arrow the wrong way round, what a title says
-/// unescaped, a row for a thread that begins. A text without a mark is no document, nor one with `&` alone, one with two
-/// attributes of one name, or one in which an element isn't closed.
+/// and of one of three lines, of which one has no row, and the titles of its rows; and what isn't drawn so: that run without the row
+/// of its last line, an arrow the wrong way round, what a title says unescaped, a row for a thread that begins. A text without a mark
+/// is no document, nor one with `&` or `>` alone, one with two attributes of one name, or one in which an element isn't closed.
 pub fn charts_by_hand()
     ensures heads { lifelines (made_row ∷ out_row ∷ in_row ∷ []) ≡ two_lifelines }
     ensures head { head_text 1 (codes "thread 2 at 111") ≡ codes "<g transform='translate(380,0)'><title>thread 2 at 111</title><line y1='32' y2='100%' stroke='black' stroke-dasharray='2,4'/><text y='24' text-anchor='middle'>thread 2 at 111</text></g>\n" }
@@ -43,11 +44,14 @@ pub fn charts_by_hand()
     ensures known { new_entry (hi ∷ []) (hi ∷ key ∷ []) ≡ Some 1 }
     ensures as_before { new_entry (hi ∷ []) (hi ∷ []) ≡ None }
     ensures run { (g : Sig) → IsChart g (act (action.new fresh_n) nil) (line.New 0 7 ∷ line.Nil 0 ∷ line.Public (codes "a") ∷ []) [] two_rows }
+    ensures titles { row_titles two_rows ≡ codes "1. thread 0 at the root: new ~n -- ~n = ~7" ∷ codes "3. adversary: &apos;a&apos; -- knows 0: &apos;a&apos;" ∷ [] }
+    ensures left_out { (g : Sig) (tr : Trace) → ¬ IsChart g (act (action.new fresh_n) nil) (line.New 0 7 ∷ line.Nil 0 ∷ line.Public (codes "a") ∷ []) tr row_left_out }
     ensures turned { ¬ (row_text two_lifelines 1 out_row ≡ codes "<g transform='translate(0,100)'><title>8. thread 2 at 111: out(pk(~1)) -- knows 0: pk(~1)</title><text x='10' y='4'>8. thread 2</text><text x='212' y='4' text-anchor='end'>knows 0</text><line x1='220' x2='380' stroke='black' marker-end='url(#arrow)'/><g transform='translate(220,0)'><rect x='8' y='-18' height='13' fill='white' width='85'/><text x='12' y='-7' xml:space='preserve'>out(pk(~1))</text></g></g>\n") }
     ensures unescaped { ¬ (row_text two_lifelines 2 in_row ≡ codes "<g transform='translate(0,130)'><title>11. thread 1 at 2: in('hi') -- shows K('hi'), x = 'hi'</title><text x='10' y='4'>11. thread 1</text><line x1='220' x2='540' stroke='black' marker-end='url(#arrow)'/><g transform='translate(220,0)'><rect x='8' y='-18' height='13' fill='white' width='148'/><text x='12' y='-7' xml:space='preserve'>in(&apos;hi&apos;) -- x = &apos;hi&apos;</text></g></g>\n") }
     ensures nothing { (g : Sig) (p : Proc) (tr : Trace) → ¬ IsChart g p [] tr [] }
     ensures no_mark { ¬ IsDocument (codes "a") }
     ensures ampersand { ¬ IsDocument (codes "<a>&</a>\n") }
+    ensures greater { ¬ IsDocument (codes "<a>></a>\n") }
     ensures twice_named { ¬ IsDocument (codes "<a b='' b=''></a>\n") }
     ensures unclosed { ¬ IsDocument (codes "<a><b></a>\n") }
 {

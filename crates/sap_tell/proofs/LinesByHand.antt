@@ -4,17 +4,17 @@ use Rattle.std.specs.Fmt.{digits}
 use Rattle.std.specs.Str.{bytes_eq}
 use Rattle.sap_process.specs.Configuration.{Config, initial}
 use Rattle.sap_process.specs.Proc.{Proc}
-use Rattle.sap_runs.specs.Inner.{different}
+use Rattle.sap_runs.specs.Inner.{different, locked}
 use Rattle.sap_runs.specs.declared.process_step.PStep.TheVariants as line
 use Rattle.sap_terms.specs.Signature.{Sig}
-use Rattle.sap_terms.specs.Tree.{Tree}
+use Rattle.sap_terms.specs.Tree.{Tree, public}
 use Rattle.sap_terms.specs.declared.fact.Fact.{Fact}
 use Rattle.sap_grammar.specs.FactText.{fact_text}
 use Rattle.sap_grammar.specs.TermText.{tree_text}
 use Rattle.sap_tell.specs.Told as told
 use Rattle.sap_tell.specs.Told.{IsDoing, IsToldLine}
 use Rattle.sap_tell.specs.ToldExamples.{first_paths, hi, key, made}
-use Rattle.sap_tell.specs.ToldText.{actor_text, begins_text, call_text, seen_texts, line_text}
+use Rattle.sap_tell.specs.ToldText.{actor_text, begins_text, call_text, ends_text, held_text, seen_texts, line_text}
 
 -- an event is told in one way
 event_doing : {g : Sig} {c : Config} {es fs : List Tree} {t : ℕ} {f : Fact} {doing : List ℕ} {outcomes : List (List ℕ)}
@@ -85,3 +85,33 @@ else_told l =
 
 pub turned : (g : Sig) (c : Config) → ¬ IsToldLine g 3 first_paths c [] (line.Else 1) (different hi key ∷ []) [] [] (codes "3. thread 1 at 2: if 'hi' = pk(~1) -- then")
 turned g c l = differ refl refl (else_told l)
+
+-- a term that is locked is held from then on
+lock_doing : {g : Sig} {c : Config} {es fs : List Tree} {k : Tree} {t : ℕ} {doing : List ℕ} {outcomes : List (List ℕ)}
+    → IsDoing g c es (line.Lock t) (locked k ∷ []) [] fs doing outcomes → (doing ≡ codes "lock " ++ tree_text k) × (outcomes ≡ held_text k ∷ [])
+lock_doing (told.locks t) = (refl, refl)
+
+lock_told : {g : Sig} {c : Config} {text : List ℕ} → IsToldLine g 5 first_paths c [] (line.Lock 2) (locked (public (codes "db")) ∷ []) [] [] text
+    → text ≡ codes "5. thread 2 at 111: lock 'db' -- 'db' is held"
+unfolding digits
+lock_told l =
+    let d = lock_doing l.done in
+    l.written ∙ (λ i. line_text 5 (actor_text first_paths (line.Lock 2)) (d.0 i) (seen_texts [] [] [] ++ d.1 i))
+
+pub other_outcome : (g : Sig) (c : Config) → ¬ IsToldLine g 5 first_paths c [] (line.Lock 2) (locked (public (codes "db")) ∷ []) [] [] (codes "5. thread 2 at 111: lock 'db' -- 'db' is free")
+other_outcome g c l = differ refl refl (lock_told l)
+
+-- the thread whose process is at its end is the one that ends
+end_doing : {g : Sig} {c : Config} {es fs : List Tree} {t : ℕ} {doing : List ℕ} {outcomes : List (List ℕ)}
+    → IsDoing g c es (line.Nil t) [] [] fs doing outcomes → (doing ≡ codes "0") × (outcomes ≡ ends_text t ∷ [])
+end_doing (told.ends t) = (refl, refl)
+
+end_told : {g : Sig} {c : Config} {text : List ℕ} → IsToldLine g 2 first_paths c [] (line.Nil 1) [] [] [] text
+    → text ≡ codes "2. thread 1 at 2: 0 -- thread 1 ends"
+unfolding digits
+end_told l =
+    let d = end_doing l.done in
+    l.written ∙ (λ i. line_text 2 (actor_text first_paths (line.Nil 1)) (d.0 i) (seen_texts [] [] [] ++ d.1 i))
+
+pub other_end : (g : Sig) (c : Config) → ¬ IsToldLine g 2 first_paths c [] (line.Nil 1) [] [] [] (codes "2. thread 1 at 2: 0 -- thread 0 ends")
+other_end g c l = differ refl refl (end_told l)

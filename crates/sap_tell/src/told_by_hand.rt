@@ -31,8 +31,8 @@ pub fn paths_by_hand()
         ≡ (1 ∷ 1 ∷ []) ∷ (2 ∷ 1 ∷ []) ∷ (1 ∷ 1 ∷ 1 ∷ []) ∷ [] }
 {}
 
-/// Lines of the run of the key server, told; and what isn't told of them: the number of an entry one off, no outcome, another term
-/// than the one that is shown.
+/// Lines of the run of the key server, told; and what isn't told of them: the number of an entry one off, no outcome, another
+/// outcome, another term than the one that is shown.
 pub fn lines_told_by_hand()
     ensures event { (g : Sig) (c : Config)
         → IsToldLine g 4 first_paths c [] (line.Event 2) [] (made ∷ []) []
@@ -59,18 +59,24 @@ pub fn lines_told_by_hand()
     ensures no_outcome { (g : Sig) (c : Config)
         → ¬ IsToldLine g 4 first_paths c [] (line.Event 2) [] (made ∷ []) []
         (codes "4. thread 2 at 111: event Made(pk(~1))") }
+    ensures other_outcome { (g : Sig) (c : Config)
+        → ¬ IsToldLine g 5 first_paths c [] (line.Lock 2) (locked (public (codes "db")) ∷ []) [] []
+        (codes "5. thread 2 at 111: lock 'db' -- 'db' is free") }
     ensures other_term { (g : Sig) (c : Config)
         → ¬ IsToldLine g 4 first_paths c [] (line.Event 2) [] (made ∷ []) []
         (codes "4. thread 2 at 111: event Made(pk(~2)) -- shows Made(pk(~1))") }
 {}
 
 /// A line of each other form, told: where threads begin and end, what variables are bound, each once, what is sent on channels and
-/// met, the store, the other branch, a rule, what the adversary does. A thread that begins isn't named by its parent, nor a branch
-/// by the other.
+/// met, the store, the other branch, a rule, what the adversary does. A thread that begins isn't named by its parent, nor one that
+/// ends by another, nor a branch by the other.
 pub fn forms_told_by_hand()
     ensures end { (g : Sig) (c : Config)
         → IsToldLine g 2 first_paths c [] (line.Nil 1) [] [] []
         (codes "2. thread 1 at 2: 0 -- thread 1 ends") }
+    ensures other_end { (g : Sig) (c : Config)
+        → ¬ IsToldLine g 2 first_paths c [] (line.Nil 1) [] [] []
+        (codes "2. thread 1 at 2: 0 -- thread 0 ends") }
     ensures split { (g : Sig) (p : Proc)
         → IsToldLine g 1 ([] ∷ []) (initial p) [] (line.Par 0) [] [] []
         (codes "1. thread 0 at the root: | -- thread 1 begins") }

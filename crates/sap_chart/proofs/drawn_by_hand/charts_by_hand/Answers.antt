@@ -3,8 +3,8 @@ use Rattle.std.specs.Fmt.{digits}
 use Rattle.sap_process.specs.Configuration.{initial}
 use Rattle.sap_tell.specs.Escaped.{escaped_byte}
 use Rattle.sap_chart.specs.Chart as drawn
-use Rattle.sap_chart.proofs.ChartsByHand.{no_mark, not_nothing, not_turned, not_unescaped, three_lines}
-use Rattle.sap_chart.proofs.NoDocuments.{ampersand, twice_named, unclosed}
+use Rattle.sap_chart.proofs.ChartsByHand.{left_out, no_mark, not_nothing, not_turned, not_unescaped, three_lines}
+use Rattle.sap_chart.proofs.NoDocuments.{ampersand, greater, twice_named, unclosed}
 use Rattle.sap_chart.proofs.drawn_by_hand.charts_by_hand.Goals as goal
 
 pub returns-clause-heads : goal.returns-clause-heads
@@ -89,6 +89,12 @@ returns-clause-as_before c = refl
 pub returns-clause-run : goal.returns-clause-run
 returns-clause-run c = three_lines
 
+pub returns-clause-titles : goal.returns-clause-titles
+returns-clause-titles c = refl
+
+pub returns-clause-left_out : goal.returns-clause-left_out
+returns-clause-left_out c = left_out c.escaped_stands_for_one.ensures.no_marks
+
 pub returns-clause-turned : goal.returns-clause-turned
 returns-clause-turned c = not_turned
 
@@ -103,6 +109,9 @@ returns-clause-no_mark c = no_mark
 
 pub returns-clause-ampersand : goal.returns-clause-ampersand
 returns-clause-ampersand c = ampersand c.escaped_stands_for_one.ensures.no_marks c.escaped_stands_for_one.ensures.read_back
+
+pub returns-clause-greater : goal.returns-clause-greater
+returns-clause-greater c = greater c.escaped_stands_for_one.ensures.no_marks c.escaped_stands_for_one.ensures.read_back
 
 pub returns-clause-twice_named : goal.returns-clause-twice_named
 returns-clause-twice_named c = twice_named c.escaped_stands_for_one.ensures.no_marks c.escaped_stands_for_one.ensures.read_back

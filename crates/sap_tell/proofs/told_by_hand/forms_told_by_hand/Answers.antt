@@ -1,6 +1,6 @@
 use Rattle.std.proofs.Common.{codes, [], ◌∷◌, refl}
 use Rattle.std.specs.Fmt.{digits}
-use Rattle.sap_tell.proofs.LinesByHand.{parent, turned}
+use Rattle.sap_tell.proofs.LinesByHand.{other_end, parent, turned}
 use Rattle.sap_tell.specs.Told as told
 use Rattle.sap_tell.specs.ToldExamples.{hi, greeting, f_of, a_of, g_of}
 use Rattle.sap_tell.proofs.told_by_hand.forms_told_by_hand.Goals as goal
@@ -8,6 +8,9 @@ use Rattle.sap_tell.proofs.told_by_hand.forms_told_by_hand.Goals as goal
 pub returns-clause-end : goal.returns-clause-end
 unfolding digits
 returns-clause-end c = λ g d. record { doing = _; outcomes = _; done = told.ends 1; written = refl }
+
+pub returns-clause-other_end : goal.returns-clause-other_end
+returns-clause-other_end c = other_end
 
 pub returns-clause-split : goal.returns-clause-split
 unfolding digits

@@ -1,6 +1,6 @@
 use Rattle.std.proofs.Common.{codes, [], ◌∷◌, refl}
 use Rattle.std.specs.Fmt.{digits}
-use Rattle.sap_tell.proofs.LinesByHand.{other_entry, no_outcome, other_term}
+use Rattle.sap_tell.proofs.LinesByHand.{other_entry, no_outcome, other_outcome, other_term}
 use Rattle.sap_tell.specs.Told as told
 use Rattle.sap_tell.specs.ToldExamples.{key, both}
 use Rattle.sap_tell.proofs.told_by_hand.lines_told_by_hand.Goals as goal
@@ -34,6 +34,9 @@ returns-clause-other_entry c = other_entry
 
 pub returns-clause-no_outcome : goal.returns-clause-no_outcome
 returns-clause-no_outcome c = no_outcome
+
+pub returns-clause-other_outcome : goal.returns-clause-other_outcome
+returns-clause-other_outcome c = other_outcome
 
 pub returns-clause-other_term : goal.returns-clause-other_term
 returns-clause-other_term c = other_term
