@@ -3,7 +3,6 @@ use Rattle.std.proofs.Common.{◌≡◌, ℕ, zero, suc, ◌<◌, arith, Bool, t
 use Rattle.std.specs.Str.{bytes_eq}
 use Rattle.std.proofs.lemmas.Slice.Eq.{bytes_eq-Decides}
 use Rattle.sap_terms.specs.Named.{first_named}
-use Rattle.sap_terms.specs.NameMap.{Puts, value_at}
 use Rattle.sap_terms.specs.code.Places.{index_of}
 
 -- the first of the two that is there
@@ -14,20 +13,6 @@ or_place (Some k) q = Some k
 or_none : (o : Option ℕ) → o ≡ or_place o None
 or_none None = refl
 or_none (Some k) = refl
-
--- where a name has a value, to give it that value changes nothing
-pub put_kept : {X : Type 0} (m : List (List ℕ × X)) (n : List ℕ) (x : X) → value_at m n ≡ Some x → Puts m m n (Some x)
-put_kept {X} m n x at k = by (bytes_eq n k) refl where
-  by : (b : Bool) → bytes_eq n k ≡ b → value_at m k ≡ (if b then Some x else value_at m k)
-  by true e = ap (value_at m) (sym ((bytes_eq-Decides n k).0 e)) ∙ at
-  by false e = refl
-
--- what stands last in a list with an item more is that item
-pub last_put : {X : Type 0} (items old : List X) (x y : X) (last : ℕ) → items ≡ old ++ x ∷ [] → last ≡ length old → slice_get items last ≡ Some y → y ≡ x
-last_put {X} items old x y last more f got = at old (sym ((λ i. slice_get (more i) (f i))) ∙ got) where
-  at : (zs : List X) → slice_get (zs ++ x ∷ []) (length zs) ≡ Some y → y ≡ x
-  at [] h = cc
-  at (z ∷ zs) h = at zs h
 
 module _ {X : Type 0} (name : X → List ℕ) where
   -- where the name has no place, no item has it
@@ -79,12 +64,6 @@ module _ {X : Type 0} (name : X → List ℕ) where
     by : (b : Bool) → bytes_eq (name s) n ≡ b → (o : Option ℕ) → index_of name ss n ≡ o → after n ≡ index_of name (ss ++ s ∷ []) n
     by true d o e = put ∙ rw (index_of-push ss s n, d, found d, e) (had o)
     by false d o e = put ∙ rw (index_of-push ss s n, d, tied n, e) (or_none o)
-
-  -- the place that the name of the item that was put has then
-  pub first_place : (places : List ℕ → Option ℕ) (ss rs : List X) (s x : X) (last first : ℕ) → ((n : List ℕ) → places n ≡ index_of name ss n) → ss ≡ rs → x ≡ s → last ≡ length ss
-      → first ≡ unwrap_or (places (name x)) last → first ≡ unwrap_or (index_of name rs (name s)) (length rs)
-  first_place places ss rs s x last first tied view same f is =
-      is ∙ (λ i. unwrap_or (places (name (same i))) (f i)) ∙ ap (λ (o : Option ℕ). unwrap_or o (length ss)) (tied (name s)) ∙ (λ i. unwrap_or (index_of name (view i) (name s)) (length (view i)))
 
   -- the place of each name is below the length
   pub index_of-below : (ss : List X) (n : List ℕ) (k : ℕ) → index_of name ss n ≡ Some k → k < length ss

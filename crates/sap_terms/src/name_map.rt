@@ -1,6 +1,6 @@
 //! Maps from names.
-ghost use Rattle.std.specs.Prelude.{◌≡◌, ◌∷◌, ◌++◌, [], None, Some, OnOk, OnErr, is_some};
-ghost use Rattle.std.specs.Option.{option_copied};
+ghost use Rattle.std.specs.Prelude.{◌≡◌, ◌∷◌, ◌++◌, [], None, Some, IfOk, OnOk, OnErr, is_some};
+ghost use Rattle.std.specs.Option.{option_copied, unwrap_or};
 ghost use Rattle.sap_terms.specs.NameMap.{Puts, items_at, value_at};
 
 use crate::{Copied, Items, Mem, Name};
@@ -68,6 +68,20 @@ impl<T: Drop> NameMap<T> {
         ensures { Puts self.old self.new name.now None }
     {
         self.pairs.remove(name);
+    }
+}
+
+impl NameMap<u64> {
+    // Gives the name this number unless it has one: the number that it has then. One search does both. Refused, the map is as
+    // it was.
+    #[tactic(auto, using(crate::proofs::PlainLaws::Maps::map_laws))]
+    pub(crate) fn keep(&mut self, name: Name, number: u64) -> Result<u64, Mem>
+        ensures number { IfOk result (λ k. k ≡ unwrap_or (value_at self.old name) number) }
+        ensures ok { IfOk result (λ k. Puts self.old self.new name (Some k)) }
+        ensures err { OnErr result (self.new ≡ self.old) }
+    {
+        let kept = self.pairs.entry(name)?.or_insert(number);
+        Ok(*kept)
     }
 }
 

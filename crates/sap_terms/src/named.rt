@@ -2,7 +2,7 @@
 ghost use Rattle.std.specs.Prelude.{◌≡◌, ℕ, ◌<◌, ◌-◌, ◌↔◌, List, [], ◌∷◌, ◌++◌, length, take, Some, IsTrue, IfOk, OnOk, OnErr, is_some, if◌then◌else◌, slice_get};
 ghost use Rattle.std.specs.Option.{option_copied, unwrap_or};
 ghost use Rattle.sap_terms.specs.Named.{first_named};
-ghost use Rattle.sap_terms.specs.NameMap.{Puts, value_at};
+ghost use Rattle.sap_terms.specs.NameMap.{value_at};
 ghost use Rattle.sap_terms.specs.code.Places.{index_of};
 
 use crate::{Copied, Items, Mem, Name, NameMap};
@@ -99,28 +99,6 @@ impl<T: HasName> Named<T> {
     }
 }
 
-// Gives the item's name this place unless it has one: the place that it has then. Refused, the map is as it was.
-#[tactic(auto, using(crate::proofs::NamedLemmas::put_kept))]
-fn keep_place<T: HasName>(
-    alloc: Global,
-    places: &mut NameMap<u64>,
-    item: &T,
-    place: u64,
-) -> Result<u64, Mem>
-    ensures number { IfOk result (λ k. k ≡ unwrap_or (value_at places.old (T.name_of item.now)) place) }
-    ensures ok { IfOk result (λ k. Puts places.old places.new (T.name_of item.now) (Some k)) }
-    ensures err { OnErr result (places.new ≡ places.old) }
-{
-    match places.get(item.name()) {
-        Some(first) => Ok(*first),
-        None => {
-            let name = item.name().copy(alloc)?;
-            places.insert(name, place)?;
-            Ok(place)
-        }
-    }
-}
-
 // Whether the name has this place.
 fn is_placed(places: &NameMap<u64>, name: &Name, place: u64) -> bool
     ensures { IsTrue result ↔ (value_at places.now name.now ≡ Some place) }
@@ -148,10 +126,10 @@ impl<T: HasName + Drop> Named<T> {
         ensures ok { OnOk result (self.new ≡ self.old ++ item ∷ []) }
         ensures err { OnErr result (self.new ≡ self.old) }
     {
-        let alloc = self.items.allocator();
+        let name = item.name().copy(self.items.allocator())?;
         let last = self.items.len();
         self.items.push(item)?;
-        match keep_place(alloc, &mut self.places, self.items.at(last), last) {
+        match self.places.keep(name, last) {
             Ok(first) => Ok(first),
             Err(e) => {
                 self.items.cut(last);
