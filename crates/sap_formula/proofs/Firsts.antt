@@ -65,7 +65,9 @@ first-from g r w scope (u ∷ ts) zero t e =
 first-from g r w scope (u ∷ ts) (suc k) t e =
     let n : suc k + 1 ≡ suc (k + 1) = omega arith in rw n (first-from g r w scope ts k t e)
 
-pub ruleset first_laws = (first-append, first-apply, or-none, or-lent, item_le-trees_count)
+pub ruleset first_laws = (first-append, first-apply, or-none, item_le-trees_count)
+
+pub ruleset form_laws = (first-append, or-lent)
 
 pub ruleset list_laws = (item_le-trees_count)
 

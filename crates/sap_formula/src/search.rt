@@ -202,7 +202,7 @@ fn in_equal<'a>(aim: &Aim<'_>, scope: &Scope<'_>, s: &'a Term, t: &'a Term) -> O
 // The name of the first part of the formula that has the fault; the parts behind it are gone over too. It takes time in
 // proportion to the formula, times the quantifiers round its parts where these count.
 #[cycle(in_form)]
-#[tactic(auto, using(crate::proofs::Firsts::first_laws))]
+#[tactic(auto, using(crate::proofs::Firsts::form_laws))]
 pub(crate) fn in_form<'a>(
     alloc: Global,
     aim: &Aim<'_>,
