@@ -1,0 +1,2 @@
+pub use Rattle.sap_terms.specs.Tree
+pub mod Parts
