@@ -7,6 +7,7 @@ mod matching;
 mod message;
 mod normal_form;
 mod reduce;
+mod shape;
 mod within;
 
 pub use cut::Cut;

@@ -1,2 +1,0 @@
-pub use Rattle.sap_terms.specs.Tree
-pub mod Parts
