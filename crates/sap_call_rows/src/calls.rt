@@ -3,7 +3,7 @@ ghost use Rattle.std.specs.Prelude.{◌<◌};
 
 use crate::desk::Desk;
 use crate::json::example_row;
-use sap_outside::Asked;
+use sap_outside::{Asked, Rest};
 use sap_rows::{Page, between, enclosed, file_bytes, number, part, parted, written};
 use sap_run_rows::show_read;
 use sap_terms::Items;
@@ -86,7 +86,7 @@ pub fn shelf_with(
         requests: Some(Vec::new(page.alloc)),
         calls: 0,
         count: 0,
-        rest: Vec::new(page.alloc),
+        rest: Rest::new(page.alloc),
         name: None,
         piece,
     }
