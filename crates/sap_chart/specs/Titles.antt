@@ -1,5 +1,5 @@
 -- What is read back from a picture: the titles of its rows. A row's title is known by what stands next behind it, the text at the left
--- margin. The byte 60 is `<`, which stands in no title.
+-- margin. The byte 60 is `<`, which stands in no title; `<title>` has 7 bytes.
 use Rattle.std.specs.Prelude.{◌==◌, ◌&&◌, ℕ, Bool, codes, nat_eq, List, [], ◌∷◌, drop, if◌then◌else◌}
 use Rattle.std.specs.List.{starts_with, before_first, after_first}
 use Rattle.sap_tell.specs.Escaped.{StandsFor}
