@@ -22,11 +22,12 @@ use Rattle.sap_translate.specs.relation.Agents.{Agent, unborn}
 use Rattle.sap_back.specs.Along.{BeginsAlong, IsAlong, count_pending}
 use Rattle.sap_back.specs.Converted.{IsConvertedToProcess}
 use Rattle.sap_back.specs.Followed.{BeginsTabled, LinesAreFollowed, EndsTabled, pending_lines}
-use Rattle.sap_back.specs.LinesFor.{AreProcessLinesForAll, no_lines}
+use Rattle.sap_back.specs.LinesFor.{AreProcessLinesForAll, facts_added, no_lines}
 use Rattle.sap_process_lines.specs.Tables.{ProcessTables, first_process_tables}
 use Rattle.sap_back.specs.Tables.{AreProcessTables}
 use Rattle.sap_back.specs.code.Replayed.{IsReplayed}
 use Rattle.sap_back.specs.code.Taken.{IsConvertedLine}
+use Rattle.sap_back.proofs.AddedFacts.{line_adds}
 use Rattle.sap_back.proofs.Counting.{back_count_next, pending_count, written_count}
 use Rattle.sap_back.proofs.Turns.{one_more_is, written_lines}
 use Rattle.sap_back.proofs.Replaying.{replayed_next, taken_line}
@@ -45,7 +46,7 @@ pub record IsConverting (g : Sig) (q : Proc) (s : State) (m : Machine) (tables :
   -- they are as many as are counted, without the one for what is pending
   pub count : length lines + count_pending pending ≡ back_count before
   -- they stand in turn, without what is pending
-  pub turns : AreProcessLinesForAll None before full lines tables.pending
+  pub turns : AreProcessLinesForAll (rules_of q) first_process_tables before full lines tables
 
 module _ (g : Sig) (q : Proc) where
   -- before the first line
@@ -61,7 +62,7 @@ module _ (g : Sig) (q : Proc) where
     along = subst (λ z. IsAlong g HasFewNodes q (Some (unborn q) ∷ []) None [] (initial q) [] [] z []) (sym at) begins;
     tabled = subst (λ z. AreProcessTables (Some (unborn q) ∷ []) None (initial q) [] z tables) (sym at) (subst (AreProcessTables (Some (unborn q) ∷ []) None (initial q) [] empty_state) (sym first) begins_tabled);
     count = refl;
-    turns = subst (λ (k : Option ℕ). AreProcessLinesForAll None [] [] [] k) (sym (ap (λ (z : ProcessTables). z.pending) first)) no_lines;
+    turns = subst (λ (z : ProcessTables). AreProcessLinesForAll (rules_of q) first_process_tables [] [] [] z) (sym first) no_lines;
   }
 
   -- behind one more line
@@ -76,6 +77,9 @@ module _ (g : Sig) (q : Proc) where
       let next = back_count_next before step in
       let many = ap length written.0 ∙ length-append lines f.more in
       let so_far = w.count in
+      let come : length f.behind.facts ≡ length tables.facts + facts_added (rules_of q) step =
+      f.tabled.all_facts ∙ line_adds g (rules_of q) HasFewNodes s.at step k.acts t.at is ∙ ap (λ (i : ℕ). i + facts_added (rules_of q) step) (sym w.tabled.all_facts)
+      in
       record {
         full = w.full ++ k.acts ∷ [];
         replayed = r;
@@ -87,8 +91,8 @@ module _ (g : Sig) (q : Proc) where
         along = subst (λ z. IsAlong g HasFewNodes q f.next f.later z f.config f.entries f.trace t.at (w.full ++ k.acts ∷ [])) (sym written.0) f.is;
         tabled = subst (AreProcessTables f.next f.later f.config f.entries t.at) (sym written.1) f.tabled;
         count = omega arith;
-        turns = subst (λ (z : ProcessTables). AreProcessLinesForAll None (before ++ step ∷ []) (w.full ++ k.acts ∷ []) longer z.pending) (sym written.1)
-            (one_more_is None tables.pending f.behind.pending before w.full step k.acts lines f.more longer written.0 w.turns (written_lines f.written));
+        turns = subst (λ (z : ProcessTables). AreProcessLinesForAll (rules_of q) first_process_tables (before ++ step ∷ []) (w.full ++ k.acts ∷ []) longer z) (sym written.1)
+            (one_more_is (rules_of q) first_process_tables tables f.behind before w.full step k.acts lines f.more longer written.0 w.turns (written_lines (length tables.facts + facts_added (rules_of q) step) f.written come));
       }
 
   -- each line shows one time

@@ -2,22 +2,18 @@
 use Rattle.std.proofs.Common.{◌≡◌, ◌<◌, ◌+◌, ◌-◌, ◌↔◌, ℕ, zero, suc, Bool, true, false, List, [], ◌∷◌, ◌++◌, Option, Some, None, refl, sym, ap, subst, ◌∙◌, arith, length, length-append, map, slice_get}
 use Rattle.std.specs.Prelude.{IsTrue}
 use Rattle.std.specs.Option.{option_map}
-use Rattle.sap_terms.specs.Signature.{Sig}
-use Rattle.sap_terms.specs.Tree.{Tree}
 use Rattle.sap_terms.specs.declared.binding.Binding.{Binding}
 use Rattle.sap_terms.specs.declared.fact.Fact.{Fact}
 use Rattle.sap_runs.specs.declared.process_step.PStep.{PStep}
 use Rattle.sap_runs.specs.declared.process_step.PStep.TheVariants as line
 use Rattle.sap_runs.specs.declared.rule_step.RStep.{RStep}
-use Rattle.sap_rule.specs.RuleSteps.{RuleState}
-use Rattle.sap_translate.specs.relation.Agents.{Agent}
-use Rattle.sap_back.specs.Followed.{IsWrittenAsProcess, lines_before, left_pending, pending_lines}
-use Rattle.sap_rule_lines.specs.RuleLines.{numbers_from}
+use Rattle.sap_back.specs.LinesFor.{AreProcessLinesFor, lines_before, left_pending, pending_lines}
 use Rattle.sap_process_lines.specs.Tables.{with_pile, ProcessTables, come, with_known, enters, waiting}
 use Rattle.sap_back.specs.code.Desk.{WritesProcess}
 use Rattle.sap_process_lines.specs.Told.{GivesTold, before_all, left_if, lines_if, numbers_of, told_embedded, told, told_at, told_where}
 use Rattle.sap_process_lines.specs.declared.kind.Kind.{Kind}
 use Rattle.sap_process_lines.specs.declared.kind.Kind.TheVariants as kind
+use Rattle.sap_back.proofs.Turns.{written_lines}
 
 -- what is told for a rule that is used on the fact of a thread
 at_seat : (t : ProcessTables) (of : Kind) (k n : ℕ) (ks : List ℕ) (b : List Binding) (shows : Bool) (count : ℕ) → slice_get t.facts k ≡ Some n
@@ -34,14 +30,9 @@ all_found table (j ∷ js) (k ∷ ks) e =
     let others : map (slice_get table) js ≡ map Some ks = cc in
     ap (λ (o : Option ℕ). before_all o (numbers_of table js)) first ∙ ap (before_all (Some k)) (all_found table js ks others)
 
--- so many numbers are as many
-many_numbers : (n k : ℕ) → length (numbers_from n k) ≡ k
-many_numbers n zero = refl
-many_numbers n (suc k) = let more = many_numbers (n + 1) k in omega arith
-
 -- how many facts of the process come is what is left of how many came
-facts_left : (t : ProcessTables) (n many count : ℕ) → length (with_pile t n many).facts ≡ count → count - length t.facts - 1 ≡ many
-facts_left t n many count e = omega (arith, many_numbers t.piled many, length-append t.facts (n ∷ numbers_from t.piled many))
+facts_left : (t : ProcessTables) (many count : ℕ) → count ≡ length t.facts + 1 + many → count - length t.facts - 1 ≡ many
+facts_left t many count e = omega (arith, e)
 
 -- what is written first is told by whether facts are shown
 lines_shown : (shows : Bool) (acts : List Fact) (k : Option ℕ) → (IsTrue shows ↔ (0 < length acts)) → lines_if shows k ≡ lines_before acts k
@@ -59,12 +50,12 @@ left_shown false (f ∷ fs) k h = let some : false ≡ true = h.1 (omega arith) 
 
 -- what is told for an embedded rule
 embedded_told : (t : ProcessTables) (n k : ℕ) (js ks : List ℕ) (b : List Binding) (shows : Bool) (count many : ℕ) (acts : List Fact) → map (slice_get t.facts) js ≡ map Some ks
-    → length (with_pile t n many).facts ≡ count → (IsTrue shows ↔ (0 < length acts))
+    → count ≡ length t.facts + 1 + many → (IsTrue shows ↔ (0 < length acts))
     → told_embedded t n (k ∷ js) b shows count
     ≡ Some (lines_before acts t.pending ++ line.Embedded n ks b ∷ [], waiting (with_pile t n many) (left_pending acts t.pending))
 embedded_told t n k js ks b shows count many acts all counts flag =
     let there = all_found t.facts js ks all in
-    let left = facts_left t n many count counts in
+    let left = facts_left t many count counts in
     let first = lines_shown shows acts t.pending flag in
     let last = left_shown shows acts t.pending flag in
     ap (λ (o : Option (List ℕ)). from (count - length t.facts - 1) (lines_if shows t.pending) (left_if shows t.pending) o) there
@@ -75,47 +66,44 @@ embedded_told t n k js ks b shows count many acts all counts flag =
     from : ℕ → List PStep → Option ℕ → Option (List ℕ) → Option (List PStep × ProcessTables)
     from i ls p o = option_map {U = List PStep × ProcessTables} (λ (is : List ℕ). (ls ++ line.Embedded n is b ∷ [], waiting (with_pile t n i) p)) o
 
--- what is told for each line for which lines are written
-told_is_written : (g : Sig) (agents : List (Option Agent)) (pending : Option Tree) (s : RuleState) (t : ProcessTables) (step : RStep) (shows : Bool) (count : ℕ) (acts : List Fact) (more : List PStep) (next : List (Option Agent)) (later : Option Tree) (tables : ProcessTables)
-    → IsWrittenAsProcess g agents pending s t step acts more next later tables → length tables.facts ≡ count → (IsTrue shows ↔ (0 < length acts))
-    → told t step shows count ≡ Some (more, tables)
-told_is_written g agents pending s t step shows count acts more next later tables (IsWrittenAsProcess.starts n body b at none) counts flag = ap (λ (m : ℕ). Some ([], come t (m ∷ []))) (sym none)
-told_is_written g agents pending s t step shows count acts more next later tables (IsWrittenAsProcess.ends n k path env b seat) counts flag = at_seat t kind.Nil k n (k ∷ []) b shows count seat.number
-told_is_written g agents pending s t step shows count acts more next later tables (IsWrittenAsProcess.splits n k path env b p q seat) counts flag = at_seat t kind.Par k n (k ∷ []) b shows count seat.number
-told_is_written g agents pending s t step shows count acts more next later tables (IsWrittenAsProcess.starts_copies n k path env b p seat) counts flag = at_seat t kind.RepStart k n (k ∷ []) b shows count seat.number
-told_is_written g agents pending s t step shows count acts more next later tables (IsWrittenAsProcess.copies n k path env b p stands number) counts flag = at_seat t kind.RepCopy k n (k ∷ []) b shows count number
-told_is_written g agents pending s t step shows count acts more next later tables (IsWrittenAsProcess.makes_name n k j m path env b x p seat made number) counts flag =
-    at_seat t kind.New k n (k ∷ j ∷ []) b shows count seat.number ∙ ap (option_map {U = List PStep × ProcessTables} (λ (i : ℕ). (line.New n i ∷ [], come t (n ∷ [])))) number
-told_is_written g agents pending s t step shows count acts more next later tables (IsWrittenAsProcess.outputs n k path env b m p seat) counts flag = at_seat t kind.Out k n (k ∷ []) b shows count seat.number
-told_is_written g agents pending s t step shows count acts more next later tables (IsWrittenAsProcess.outputs_on n k j e path env b m u p seat is) counts flag =
-    at_seat t kind.OutAdv k n (k ∷ j ∷ []) b shows count seat.number ∙ ap (option_map {U = List PStep × ProcessTables} (λ (i : ℕ). (line.Send n i ∷ [], waiting (with_known (come t (t.known ∷ n ∷ []))) None))) is
-told_is_written g agents pending s t step shows count acts more next later tables (IsWrittenAsProcess.sends n k j i path env b m u x v p seat first second) counts flag = at_seat t kind.OutMsg k n (k ∷ j ∷ []) b shows count seat.number
-told_is_written g agents pending s t step shows count acts more next later tables (IsWrittenAsProcess.goes_on n k j i path env b m u p at waits number) counts flag = at_seat t kind.OutAck k n (k ∷ j ∷ []) b shows count number
-told_is_written g agents pending s t step shows count acts more next later tables (IsWrittenAsProcess.inputs n k j e path env b m σ p seat is) counts flag =
-    at_seat t kind.In k n (k ∷ j ∷ []) b shows count seat.number ∙ ap (option_map {U = List PStep × ProcessTables} (λ (i : ℕ). (line.In n i ∷ [], waiting (come t (n ∷ [])) None))) is
-told_is_written g agents pending s t step shows count acts more next later tables (IsWrittenAsProcess.inputs_on n k j e path env b m u σ p seat is) counts flag =
-    at_seat t kind.In k n (k ∷ j ∷ []) b shows count seat.number ∙ ap (option_map {U = List PStep × ProcessTables} (λ (i : ℕ). (line.In n i ∷ [], waiting (come t (n ∷ [])) None))) is
-told_is_written g agents pending s t step shows count acts more next later tables (IsWrittenAsProcess.meets a n k j i at path other env b m u x v l r σ p q sender message number seat) counts flag =
-    at_seat t kind.InMsg k n (k ∷ j ∷ []) b shows count seat.number ∙ ap (option_map {U = List PStep × ProcessTables} (λ (h : ℕ). (line.Sync h n ∷ [], come t (h ∷ n ∷ [])))) number
-told_is_written g agents pending s t step shows count acts more next later tables (IsWrittenAsProcess.shows n k path env b f p seat) counts flag = at_seat t kind.Event k n (k ∷ []) b shows count seat.number
-told_is_written g agents pending s t step shows count acts more next later tables (IsWrittenAsProcess.inserts n k path env b m u p seat) counts flag = at_seat t kind.Insert k n (k ∷ []) b shows count seat.number
-told_is_written g agents pending s t step shows count acts more next later tables (IsWrittenAsProcess.deletes n k path env b m p seat) counts flag = at_seat t kind.Delete k n (k ∷ []) b shows count seat.number
-told_is_written g agents pending s t step shows count acts more next later tables (IsWrittenAsProcess.locks n k j i path env b m l p seat) counts flag = at_seat t kind.Lock k n (k ∷ j ∷ []) b shows count seat.number
-told_is_written g agents pending s t step shows count acts more next later tables (IsWrittenAsProcess.unlocks n k path env b m l p seat) counts flag = at_seat t kind.Unlock k n (k ∷ []) b shows count seat.number
-told_is_written g agents pending s t step shows count acts more next later tables (IsWrittenAsProcess.agrees n k path env b m u p q seat) counts flag = at_seat t kind.Then k n (k ∷ []) b shows count seat.number
-told_is_written g agents pending s t step shows count acts more next later tables (IsWrittenAsProcess.differs n k path env b m u p q seat) counts flag = at_seat t kind.Else k n (k ∷ []) b shows count seat.number
-told_is_written g agents pending s t step shows count acts more next later tables (IsWrittenAsProcess.finds n k path env b m v y p q seat) counts flag = at_seat t kind.Found k n (k ∷ []) b shows count seat.number
-told_is_written g agents pending s t step shows count acts more next later tables (IsWrittenAsProcess.misses n k path env b m y p q seat) counts flag = at_seat t kind.Missing k n (k ∷ []) b shows count seat.number
-told_is_written g agents pending s t step shows count acts more next later tables (IsWrittenAsProcess.embeds n k js ks path env b l a o σ p seat all) counts flag =
-    at_seat t kind.Embedded k n (k ∷ js) b shows count seat.number ∙ embedded_told t n k js ks b shows count (length o) acts all counts flag
-told_is_written g agents pending s t step shows count acts more next later tables (IsWrittenAsProcess.makes n) counts flag = refl
-told_is_written g agents pending s t step shows count acts more next later tables (IsWrittenAsProcess.learns k e number) counts flag = ap (option_map {U = List PStep × ProcessTables} (λ (i : ℕ). ([], enters t i))) number
-told_is_written g agents pending s t step shows count acts more next later tables (IsWrittenAsProcess.owns k n made number) counts flag = ap (option_map {U = List PStep × ProcessTables} (λ (i : ℕ). (line.Name i ∷ [], with_known (enters t t.known)))) number
-told_is_written g agents pending s t step shows count acts more next later tables (IsWrittenAsProcess.writes a) counts flag = refl
-told_is_written g agents pending s t step shows count acts more next later tables (IsWrittenAsProcess.applies f ks js all) counts flag =
-    ap (option_map {U = List PStep × ProcessTables} (λ (is : List ℕ). (line.Apply f is ∷ [], with_known (enters t t.known)))) (all_found t.entries ks js all)
-told_is_written g agents pending s t step shows count acts more next later tables (IsWrittenAsProcess.knows k e x known number) counts flag =
-    ap (option_map {U = List PStep × ProcessTables} (λ (i : ℕ). (pending_lines t.pending, waiting (come t (0 ∷ [])) (Some i)))) number
+-- what stands opposite to a line of rules is told for it
+pub told_lines : (t : ProcessTables) (step : RStep) (shows : Bool) (count : ℕ) (acts : List Fact) (own : List PStep) (behind : ProcessTables)
+    → AreProcessLinesFor t count step acts own behind → (IsTrue shows ↔ (0 < length acts)) → told t step shows count ≡ Some (own, behind)
+told_lines t step shows count acts own behind (AreProcessLinesFor.starts b) flag = refl
+told_lines t step shows count acts own behind (AreProcessLinesFor.starts_copies n k path ks b number) flag = at_seat t kind.RepStart k n (k ∷ ks) b shows count number
+told_lines t step shows count acts own behind (AreProcessLinesFor.sends n k path ks b number) flag = at_seat t kind.OutMsg k n (k ∷ ks) b shows count number
+told_lines t step shows count acts own behind (AreProcessLinesFor.goes_on n k path ks b number) flag = at_seat t kind.OutAck k n (k ∷ ks) b shows count number
+told_lines t step shows count acts own behind (AreProcessLinesFor.ends n k path ks b number) flag = at_seat t kind.Nil k n (k ∷ ks) b shows count number
+told_lines t step shows count acts own behind (AreProcessLinesFor.splits n k path ks b number) flag = at_seat t kind.Par k n (k ∷ ks) b shows count number
+told_lines t step shows count acts own behind (AreProcessLinesFor.copies n k path ks b number) flag = at_seat t kind.RepCopy k n (k ∷ ks) b shows count number
+told_lines t step shows count acts own behind (AreProcessLinesFor.makes_name n k m j path ks b number made) flag =
+    at_seat t kind.New k n (k ∷ j ∷ ks) b shows count number ∙ ap (option_map {U = List PStep × ProcessTables} (λ (i : ℕ). (line.New n i ∷ [], come t (n ∷ [])))) made
+told_lines t step shows count acts own behind (AreProcessLinesFor.outputs n k path ks b number) flag = at_seat t kind.Out k n (k ∷ ks) b shows count number
+told_lines t step shows count acts own behind (AreProcessLinesFor.outputs_on n k e path ks b number is) flag =
+    at_seat t kind.OutAdv k n (k ∷ ks) b shows count number ∙ ap (option_map {U = List PStep × ProcessTables} (λ (i : ℕ). (line.Send n i ∷ [], waiting (with_known (come t (t.known ∷ n ∷ []))) None))) is
+told_lines t step shows count acts own behind (AreProcessLinesFor.inputs n k e path ks b number is) flag =
+    at_seat t kind.In k n (k ∷ ks) b shows count number ∙ ap (option_map {U = List PStep × ProcessTables} (λ (i : ℕ). (line.In n i ∷ [], waiting (come t (n ∷ [])) None))) is
+told_lines t step shows count acts own behind (AreProcessLinesFor.inputs_on n k e path ks b number is) flag =
+    at_seat t kind.In k n (k ∷ ks) b shows count number ∙ ap (option_map {U = List PStep × ProcessTables} (λ (i : ℕ). (line.In n i ∷ [], waiting (come t (n ∷ [])) None))) is
+told_lines t step shows count acts own behind (AreProcessLinesFor.meets a n k j path ks b number sender) flag =
+    at_seat t kind.InMsg k n (k ∷ j ∷ ks) b shows count number ∙ ap (option_map {U = List PStep × ProcessTables} (λ (h : ℕ). (line.Sync h n ∷ [], come t (h ∷ n ∷ [])))) sender
+told_lines t step shows count acts own behind (AreProcessLinesFor.shows n k path ks b number) flag = at_seat t kind.Event k n (k ∷ ks) b shows count number
+told_lines t step shows count acts own behind (AreProcessLinesFor.inserts n k path ks b number) flag = at_seat t kind.Insert k n (k ∷ ks) b shows count number
+told_lines t step shows count acts own behind (AreProcessLinesFor.deletes n k path ks b number) flag = at_seat t kind.Delete k n (k ∷ ks) b shows count number
+told_lines t step shows count acts own behind (AreProcessLinesFor.locks n k path ks b number) flag = at_seat t kind.Lock k n (k ∷ ks) b shows count number
+told_lines t step shows count acts own behind (AreProcessLinesFor.unlocks n k path ks b number) flag = at_seat t kind.Unlock k n (k ∷ ks) b shows count number
+told_lines t step shows count acts own behind (AreProcessLinesFor.agrees n k path ks b number) flag = at_seat t kind.Then k n (k ∷ ks) b shows count number
+told_lines t step shows count acts own behind (AreProcessLinesFor.differs n k path ks b number) flag = at_seat t kind.Else k n (k ∷ ks) b shows count number
+told_lines t step shows count acts own behind (AreProcessLinesFor.finds n k path ks b number) flag = at_seat t kind.Found k n (k ∷ ks) b shows count number
+told_lines t step shows count acts own behind (AreProcessLinesFor.misses n k path ks b number) flag = at_seat t kind.Missing k n (k ∷ ks) b shows count number
+told_lines t step shows count acts own behind (AreProcessLinesFor.embeds n k many js taken path b number all counts) flag =
+    at_seat t kind.Embedded k n (k ∷ js) b shows count number ∙ embedded_told t n k js taken b shows count many acts all counts flag
+told_lines t step shows count acts own behind (AreProcessLinesFor.makes n) flag = refl
+told_lines t step shows count acts own behind (AreProcessLinesFor.learns k e number) flag = ap (option_map {U = List PStep × ProcessTables} (λ (i : ℕ). ([], enters t i))) number
+told_lines t step shows count acts own behind (AreProcessLinesFor.owns k n number) flag = ap (option_map {U = List PStep × ProcessTables} (λ (i : ℕ). (line.Name i ∷ [], with_known (enters t t.known)))) number
+told_lines t step shows count acts own behind (AreProcessLinesFor.writes a) flag = refl
+told_lines t step shows count acts own behind (AreProcessLinesFor.applies f ks js all) flag = ap (option_map {U = List PStep × ProcessTables} (λ (is : List ℕ). (line.Apply f is ∷ [], with_known (enters t t.known)))) (all_found t.entries ks js all)
+told_lines t step shows count acts own behind (AreProcessLinesFor.knows k e number) flag = ap (option_map {U = List PStep × ProcessTables} (λ (i : ℕ). (pending_lines t.pending, waiting (come t (0 ∷ [])) (Some i)))) number
 
 -- what is given of what is told
 given : (o : Option (List PStep × ProcessTables)) (behind tables : ProcessTables) (before after more : List PStep) → o ≡ Some (more, tables) → GivesTold o behind before after → (after ≡ before ++ more) × (behind ≡ tables)
@@ -124,4 +112,4 @@ given o behind tables before after more e = subst (λ (p : Option (List PStep ×
 -- what gives what is told writes what is written
 pub gives_writes : (t behind : ProcessTables) (step : RStep) (shows : Bool) (count : ℕ) (before after : List PStep) → GivesTold (told t step shows count) behind before after → WritesProcess t behind step shows count before after
 gives_writes t behind step shows count before after h =
-    λ g agents pending s acts more next later tables w counts flag. given (told t step shows count) behind tables before after more (told_is_written g agents pending s t step shows count acts more next later tables w counts flag) h
+    λ g agents pending s acts more next later tables w counts flag. given (told t step shows count) behind tables before after more (told_lines t step shows count acts more tables (written_lines count w counts) flag) h

@@ -26,7 +26,9 @@ pub mod Counting
 pub mod Turns
 pub mod NamedIn
 pub mod LinesTried
+pub mod AddedFacts
 pub mod Converting
 pub mod SomeRun
 pub mod OneRun
 pub mod DeskLines
+pub mod OneConverted

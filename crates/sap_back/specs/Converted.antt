@@ -36,8 +36,8 @@ pub record IsConvertedToProcess (g : Sig) (start : Proc) (rule_lines : List RSte
   pub opposite : IsOppositeProcessRun g start rule_lines state full lines
   -- there are exactly so many
   pub count : length lines ≡ back_count rule_lines
-  -- they stand in turn, and so it is told where a `know` stands
-  pub turns : ProcessLinesStandInTurn rule_lines full lines
+  -- they stand in turn, each with its numbers, as at most one run of the process does
+  pub turns : ProcessLinesStandInTurn (rules_of start) rule_lines full lines
 
 -- the lines before the one with this number, from 1, are such a run, and that one is refused for this cause
 pub record IsFirstRefusedOfRules (g : Sig) (start : Proc) (rule_lines : List RStep) (number : ℕ)

@@ -1,16 +1,19 @@
 //! Laws of runs of rules and of the process, as contracts of functions that only call the laws below.
-ghost use Rattle.std.specs.Prelude.{All, ℕ, List, [], ◌∷◌, Option, Some, None, codes, ◌<◌, ◌^◌, ◌≡◌};
+ghost use Rattle.std.specs.Prelude.{All, ℕ, List, [], ◌∷◌, Some, None, codes, slice_get, ◌<◌, ◌^◌, ◌≡◌, ◌↔◌};
 ghost use Rattle.sap_back.specs.Along.{BeginsAlong};
 ghost use Rattle.sap_back.specs.Followed.{BeginsTabled, EndsTabled, LinesAreFollowed};
-ghost use Rattle.sap_back.specs.LineExamples.{six_rule_lines, six_shown, their_lines};
-ghost use Rattle.sap_back.specs.LinesFor.{uses, AreProcessLinesFor, AreProcessLinesForAll, ProcessLinesStandInTurn};
+ghost use Rattle.sap_back.specs.Converted.{IsConvertedToProcess};
+ghost use Rattle.sap_back.specs.LineExamples.{copied_lines, copied_rule_lines, copied_shown, embedded_lines, embedded_rule_lines, embedded_rules, embedded_shown, given_lines, given_rule_lines, given_shown, learned_lines, learned_rule_lines, learned_shown};
+ghost use Rattle.sap_back.specs.LinesFor.{pending_lines, uses, AreProcessLinesFor, AreProcessLinesForAll, ProcessLinesStandInTurn};
 ghost use Rattle.sap_back.specs.NamedIn.{IsNamedIn};
 ghost use Rattle.sap_back.specs.Opposite.{HasOppositeProcessRuns};
 ghost use Rattle.sap_locks.specs.Annotation.{IsAnnotation};
 ghost use Rattle.sap_process.specs.Proc.{Proc, node_count};
 ghost use Rattle.sap_process.specs.Ready.{IsReady};
 ghost use Rattle.sap_read.specs.Files.{FileContent, IsRunnable};
+ghost use Rattle.sap_process_lines.specs.Tables.{ProcessTables};
 ghost use Rattle.sap_rule.specs.WellMade.{IsWellMade};
+ghost use Rattle.sap_rule.specs.declared.rule.Rule.{Rule};
 ghost use Rattle.sap_runs.specs.declared.process_step.PStep.{PStep};
 ghost use Rattle.sap_runs.specs.declared.process_step.PStep.TheVariants as line;
 ghost use Rattle.sap_runs.specs.declared.rule_step.RStep.{RStep};
@@ -123,34 +126,69 @@ pub fn rule_runs_have_one_answer()
 /// A law: what lines name that stand in turn stands in the lines of rules: the public name that a line writes down, the symbol that
 /// one applies, the bindings of an embedded rule.
 pub fn names_stand_in_lines()
-    ensures { (rule_lines : List RStep) (full : Trace) (lines : List PStep)
-        → ProcessLinesStandInTurn rule_lines full lines → All (IsNamedIn rule_lines) lines }
+    ensures { (rules : List Rule) (rule_lines : List RStep) (full : Trace) (lines : List PStep)
+        → ProcessLinesStandInTurn rules rule_lines full lines → All (IsNamedIn rule_lines) lines }
 {}
 
+/// A law: lines of rules are converted to at most one run of the process. Of any rules and any full trace at most one list of lines
+/// stands in turn; so a run of rules has at most one that it is converted to, where the process is the annotation of one that is ready
+/// and has fewer than 2^64 places, over a signature that holds pairs and what its builtins declare.
+pub fn one_converted_run()
+    ensures in_turn { (rules : List Rule) (rule_lines : List RStep) (full : Trace) (lines others : List PStep)
+        → ProcessLinesStandInTurn rules rule_lines full lines
+        → ProcessLinesStandInTurn rules rule_lines full others → lines ≡ others }
+    ensures run { (g : Sig) (p q : Proc) (rule_lines : List RStep) (lines others : List PStep)
+        → arity_of g pair_name ≡ Some 2 → HoldsBuiltins g → IsReady g p → node_count p < 2 ^ 64 → IsAnnotation p q
+        → IsConvertedToProcess g q rule_lines lines → IsConvertedToProcess g q rule_lines others → lines ≡ others }
+{
+    rule_runs_have_one_answer();
+}
+
 /// A law: lines tried by hand. For `pub 'a'` alone stands the line that writes down `a`, and no other, so no name with a quote and a
-/// line feed in it; for `pub 'a'` and `pub 'b'` stand the two in this order; for `app f 0` one that applies `f`, to whatever entry. Six
-/// lines with where their `know` stands; what is given isn't shown at once, but where the next is given, unless an input takes it,
-/// which takes nothing where nothing is pending.
+/// line feed in it; for `pub 'a'` and `pub 'b'` stand the two in this order; for `app f 0` one that applies `f`, to the entry that entry
+/// 0 is. What is given isn't shown at once, but where the next is given, unless an input takes it, which takes nothing where nothing is
+/// pending.
 pub fn turns_by_hand()
-    ensures alone { (acts : List Fact) (lines : List PStep) (last : Option ℕ)
-        → AreProcessLinesForAll None (PublicLine (codes "a") ∷ []) (acts ∷ []) lines last
+    ensures alone { (rules : List Rule) (tables : ProcessTables) (acts : List Fact) (lines : List PStep)
+        (last : ProcessTables)
+        → AreProcessLinesForAll rules tables (PublicLine (codes "a") ∷ []) (acts ∷ []) lines last
         → lines ≡ line.Public (codes "a") ∷ [] }
-    ensures in_order { (acts others : List Fact) (lines : List PStep) (last : Option ℕ)
-        → AreProcessLinesForAll None (PublicLine (codes "a") ∷ PublicLine (codes "b") ∷ []) (acts ∷ others ∷ []) lines last
+    ensures in_order { (rules : List Rule) (tables : ProcessTables) (acts others : List Fact) (lines : List PStep)
+        (last : ProcessTables)
+        → AreProcessLinesForAll rules tables (PublicLine (codes "a") ∷ PublicLine (codes "b") ∷ []) (acts ∷ others ∷ []) lines last
         → lines ≡ line.Public (codes "a") ∷ line.Public (codes "b") ∷ [] }
-    ensures symbol { (k next : Option ℕ) (acts : List Fact) (lines : List PStep)
-        → AreProcessLinesFor k (ApplyLine (codes "f") (0 ∷ [])) acts lines next
-        → (entries : List ℕ) × (lines ≡ line.Apply (codes "f") entries ∷ []) }
-    ensures six { ProcessLinesStandInTurn six_rule_lines six_shown their_lines }
-    ensures waits { (acts others : List Fact) (lines : List PStep) (last : Option ℕ)
-        → AreProcessLinesForAll None (KnowLine 0 ∷ PublicLine (codes "a") ∷ []) (acts ∷ others ∷ []) lines last
-        → (lines ≡ line.Public (codes "a") ∷ []) × ((e : ℕ) × (last ≡ Some e)) }
-    ensures shown_next { (acts others : List Fact) (lines : List PStep) (last : Option ℕ)
-        → AreProcessLinesForAll None (KnowLine 0 ∷ KnowLine 1 ∷ []) (acts ∷ others ∷ []) lines last
-        → (e : ℕ) × (lines ≡ line.Know e ∷ []) × ((u : ℕ) × (last ≡ Some u)) }
-    ensures taken { (acts others : List Fact) (lines : List PStep) (last : Option ℕ)
-        → AreProcessLinesForAll None (KnowLine 0 ∷ uses (codes "In_") [] (0 ∷ 1 ∷ []) [] ∷ []) (acts ∷ others ∷ []) lines last
-        → (t e : ℕ) × (lines ≡ line.In t e ∷ []) × (last ≡ None) }
-    ensures not_taken { (acts : List Fact) (lines : List PStep) (last : Option ℕ)
-        → AreProcessLinesForAll None (uses (codes "In_") [] (0 ∷ 1 ∷ []) [] ∷ []) (acts ∷ []) lines last → ⊥ }
+    ensures symbol { (tables next : ProcessTables) (count e : ℕ) (acts : List Fact) (lines : List PStep)
+        → slice_get tables.entries 0 ≡ Some e
+        → AreProcessLinesFor tables count (ApplyLine (codes "f") (0 ∷ [])) acts lines next
+        → lines ≡ line.Apply (codes "f") (e ∷ []) ∷ [] }
+    ensures waits { (rules : List Rule) (tables : ProcessTables) (acts others : List Fact) (lines : List PStep)
+        (last : ProcessTables) → tables.pending ≡ None
+        → AreProcessLinesForAll rules tables (KnowLine 0 ∷ PublicLine (codes "a") ∷ []) (acts ∷ others ∷ []) lines last
+        → (lines ≡ line.Public (codes "a") ∷ []) × (last.pending ≡ slice_get tables.entries 0) }
+    ensures shown_next { (rules : List Rule) (tables : ProcessTables) (acts others : List Fact) (lines : List PStep)
+        (last : ProcessTables) → tables.pending ≡ None
+        → AreProcessLinesForAll rules tables (KnowLine 0 ∷ KnowLine 1 ∷ []) (acts ∷ others ∷ []) lines last
+        → (lines ≡ pending_lines (slice_get tables.entries 0)) × (last.pending ≡ slice_get tables.entries 1) }
+    ensures taken { (rules : List Rule) (tables : ProcessTables) (acts others : List Fact) (lines : List PStep)
+        (last : ProcessTables) → tables.pending ≡ None
+        → AreProcessLinesForAll rules tables (KnowLine 0 ∷ uses (codes "In_") [] (0 ∷ 1 ∷ []) [] ∷ []) (acts ∷ others ∷ []) lines last
+        → (t e : ℕ) × (slice_get tables.entries 0 ≡ Some e) × (lines ≡ line.In t e ∷ []) × (last.pending ≡ None) }
+    ensures not_taken { (rules : List Rule) (tables : ProcessTables) (acts : List Fact) (lines : List PStep)
+        (last : ProcessTables) → tables.pending ≡ None
+        → AreProcessLinesForAll rules tables (uses (codes "In_") [] (0 ∷ 1 ∷ []) [] ∷ []) (acts ∷ []) lines last → ⊥ }
+{}
+
+/// A law: small runs tried by hand, each of which has these lines and no others. Eight lines with where their `know` stands; of two
+/// copies that are the same, the one whose fact is cited shows the event; of two entries that are the same, a symbol is applied to the
+/// one that is cited, and what was put out before them and learned behind has its number there; of two facts that are the same, a rule
+/// takes the one that is cited.
+pub fn numbers_by_hand()
+    ensures given { (rules : List Rule) (lines : List PStep)
+        → ProcessLinesStandInTurn rules given_rule_lines given_shown lines ↔ (lines ≡ given_lines) }
+    ensures copied { (rules : List Rule) (lines : List PStep)
+        → ProcessLinesStandInTurn rules copied_rule_lines copied_shown lines ↔ (lines ≡ copied_lines) }
+    ensures learned { (rules : List Rule) (lines : List PStep)
+        → ProcessLinesStandInTurn rules learned_rule_lines learned_shown lines ↔ (lines ≡ learned_lines) }
+    ensures embedded { (lines : List PStep)
+        → ProcessLinesStandInTurn embedded_rules embedded_rule_lines embedded_shown lines ↔ (lines ≡ embedded_lines) }
 {}

@@ -24,5 +24,5 @@ told_process_run z ss t = told_process (its_head process_head z ss t).1 t
 pub judged_texts : (f : FileContent) (r : Run) (text : List ℕ) → IsOppositeText f r text → IsJudgedAlike f r text
 judged_texts f _ _ (rules_of_process rule_lines opposite alike read) =
     record { other = run.Rules rule_lines; alike = alike; read = λ few short. is_run short (told_rule_run (rule_run_text rule_lines) rule_lines (read few)) }
-judged_texts f _ _ (process_of_rules lines opposite alike read) =
+judged_texts f _ _ (process_of_rules lines opposite converted alike read) =
     record { other = run.Process lines; alike = alike; read = λ few short. is_run short (told_process_run (process_run_text lines) lines (read few)) }

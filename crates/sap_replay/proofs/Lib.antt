@@ -12,6 +12,7 @@ pub mod SeenMessages
 pub mod Stopped
 pub mod NeverStops
 pub mod JudgedAlike
+pub mod OneConversion
 pub mod Written
 pub mod WrittenNames
 pub mod FilledRead

@@ -6,6 +6,7 @@ use Rattle.sap_read.specs.Printable.{IsPrintableFile}
 use Rattle.sap_read.specs.declared.limits.TheConstants.{MOST_NEW_NAME_BYTES}
 use Rattle.sap_theory.specs.PrintableTheory.{IsPrintable}
 use Rattle.sap_gen.specs.Kept.{file_theory}
+use Rattle.sap_templates.specs.Templates.{rules_of}
 use Rattle.sap_run_texts.specs.declared.run.Kinds.{Kinds}
 use Rattle.sap_run_texts.specs.declared.run.Run.{Run}
 use Rattle.sap_outside.specs.RunPieces.{IsRunAnswer}
@@ -42,8 +43,8 @@ module _ (laws : Laws) (k : Kinds) (z : List ℕ) (f : FileContent) (runnable : 
       (λ short. rules_are_read laws.rules f printable.file printable.theory z lines rule_lines (process_text_of_answer k z lines answer) c numbered short)
   converted_is_opposite _ _ answer (to_process {rule_lines = rule_lines} lines c numbered) =
       let opposite = back_is_opposite f rule_lines lines c in
-      process_of_rules lines opposite (λ text. let both = laws.alike f lines rule_lines text runnable opposite in (both.1, both.0))
-      (λ short. opposite_is_read laws.texts k z rule_lines c.full lines answer c.turns numbered short)
+      process_of_rules lines opposite c (λ text. let both = laws.alike f lines rule_lines text runnable opposite in (both.1, both.0))
+      (λ short. opposite_is_read laws.texts k z (rules_of f.process) rule_lines c.full lines answer c.turns numbered short)
 
   -- what a task writes of a run that was read says what it should
   pub written_says : (task : Task) (r : Run) (text : List ℕ) → IsRunAnswer k z (Ok r) → Writes task f r text → Says task f r text

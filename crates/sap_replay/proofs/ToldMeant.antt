@@ -51,12 +51,12 @@ drawn_is_seen laws f r text w = seen_of f r w.lines w.written.trace w.of_run (dr
 
 own_or_opposite : (f : FileContent) (r : Run) (lines : List PStep) → AreLinesOf f r lines → AreOwnOrOpposite f r lines
 own_or_opposite f _ _ (own lines) = told.own lines
-own_or_opposite f _ _ (converted {rule_lines = rule_lines} lines c) = told.opposite lines (back_is_opposite f rule_lines lines c)
+own_or_opposite f _ _ (converted {rule_lines = rule_lines} lines c) = told.opposite lines (back_is_opposite f rule_lines lines c) c
 
 -- what is judged of its lines is judged of a run
 judged_of : AreAlike → (f : FileContent) (r : Run) (lines : List PStep) (text : List ℕ) → IsRunnable f → AreOwnOrOpposite f r lines → IsJudgedText f (run.Process lines) text → IsJudgedText f r text
 judged_of alike f _ _ text runnable (told.own lines) j = j
-judged_of alike f _ _ text runnable (told.opposite {rule_lines = rule_lines} lines o) j = (alike f lines rule_lines text runnable o).0 j
+judged_of alike f _ _ text runnable (told.opposite {rule_lines = rule_lines} lines o c) j = (alike f lines rule_lines text runnable o).0 j
 
 pub told_says : Laws → AreAlike → (f : FileContent) (r : Run) (text : List ℕ) → IsRunnable f → IsTextOfLines f (IsToldAndJudged f) r text → IsToldOf f r text
 told_says laws alike f r text runnable w =

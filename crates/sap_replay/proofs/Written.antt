@@ -4,6 +4,7 @@ use Rattle.std.specs.Prelude.{All}
 use Rattle.std.proofs.lemmas.List.Elements.{All-nil, All-cons, All-head, All-tail, All-contains}
 use Rattle.sap_terms.specs.Trace.{Trace}
 use Rattle.sap_terms.specs.declared.binding.Binding.{Binding}
+use Rattle.sap_rule.specs.declared.rule.Rule.{Rule}
 use Rattle.sap_runs.specs.declared.process_step.PStep.{PStep}
 use Rattle.sap_runs.specs.declared.process_step.PStep.TheVariants as step
 use Rattle.sap_runs.specs.declared.rule_step.RStep.{RStep}
@@ -25,7 +26,7 @@ use Rattle.sap_back.specs.NamedIn.{IsNamedIn}
 -- what is so of texts of runs
 pub record Laws : Type 0 where
   pub named : (s : PStep) → CanBeNamed s → AreNumbered (process_words s) → IsWritableProcess s
-  pub names : (ls : List RStep) (full : Trace) (ss : List PStep) → ProcessLinesStandInTurn ls full ss → All (IsNamedIn ls) ss
+  pub names : (rules : List Rule) (ls : List RStep) (full : Trace) (ss : List PStep) → ProcessLinesStandInTurn rules ls full ss → All (IsNamedIn ls) ss
   pub read : (z : List ℕ) (ss : List RStep) → IsRuleRunText z (Ok ss) → Each IsWritableRule ss
   pub printed : (ss : List PStep) → Each IsWritableProcess ss → length ss ≤ MOST_PROCESS_STEPS → IsProcessRunText (process_run_text ss) (Ok ss)
 
@@ -111,8 +112,8 @@ module _ (ls : List RStep) (writable : All IsWritableRule ls) where
 
 -- the text of lines that stand in turn, those for each line of rules that were read, and whose numbers are of 64 bits, is read as these
 -- lines
-pub opposite_is_read : Laws → (k : Kinds) (z : List ℕ) (ls : List RStep) (full : Trace) (ss : List PStep) → IsRunAnswer k z (Ok (run.Rules ls)) → ProcessLinesStandInTurn ls full ss
+pub opposite_is_read : Laws → (k : Kinds) (z : List ℕ) (rules : List Rule) (ls : List RStep) (full : Trace) (ss : List PStep) → IsRunAnswer k z (Ok (run.Rules ls)) → ProcessLinesStandInTurn rules ls full ss
     → Each (λ s. AreNumbered (process_words s)) ss → length ss ≤ MOST_PROCESS_STEPS → IsProcessRunText (process_run_text ss) (Ok ss)
-opposite_is_read laws k z ls full ss answer turns numbered short =
+opposite_is_read laws k z rules ls full ss answer turns numbered short =
     let writable = all_of IsWritableRule ls (laws.read z ls (text_of_answer k z ls answer)) in
-    laws.printed ss (can_be_written ls writable laws ss (laws.names ls full ss turns) numbered) short
+    laws.printed ss (can_be_written ls writable laws ss (laws.names rules ls full ss turns) numbered) short

@@ -101,14 +101,16 @@ pub record AreOpposite (f : FileContent) (lines : List PStep)
 abbrev pub AreJudgedAlike : FileContent → Run → Run → Type 0
 AreJudgedAlike f r other = (text : List ℕ) → IsJudgedText f r text ↔ IsJudgedText f other text
 
--- The text is that of a run that is opposite to the one that was read, and of both the same is said. It is read as this run, unless
--- that has more steps than a run that is read may have.
+-- The text is that of a run that is opposite to the one that was read, and of both the same is said. Of a run of rules it is the run of
+-- the process that the lines are converted to, which is one. It is read as this run, unless that has more steps than a run that is read
+-- may have.
 pub data IsOppositeText (f : FileContent) : Run → List ℕ → Type 0 where
   rules_of_process : {lines : List PStep} (rule_lines : List RStep) → AreOpposite f lines rule_lines
       → AreJudgedAlike f (run.Process lines) (run.Rules rule_lines)
       → (length rule_lines ≤ MOST_RULE_STEPS → IsRuleRunText (rule_run_text rule_lines) (Ok rule_lines))
       → IsOppositeText f (run.Process lines) (rule_run_text rule_lines)
   process_of_rules : {rule_lines : List RStep} (lines : List PStep) → AreOpposite f lines rule_lines
+      → back.IsConvertedToProcess f.signature f.process rule_lines lines
       → AreJudgedAlike f (run.Rules rule_lines) (run.Process lines)
       → (length lines ≤ MOST_PROCESS_STEPS → IsProcessRunText (process_run_text lines) (Ok lines))
       → IsOppositeText f (run.Rules rule_lines) (process_run_text lines)

@@ -12,7 +12,7 @@ use Rattle.sap_terms.specs.Trace.{Trace}
 use Rattle.sap_replay.specs.Replays.{AreOpposite, IsJudgedText, IsSeen}
 use Rattle.sap_replay.specs.Verdicts.{AreVerdicts, all_judged}
 
--- the lines are a run of the process: the run itself; or, where it is one of rules, a run that it is converted to
+-- the lines are a run of the process: the run itself; or, where it is one of rules, the run that it is converted to
 pub data AreLinesOf (f : FileContent) : Run → List PStep → Type 0 where
   own : (lines : List PStep) → AreLinesOf f (run.Process lines) lines
   converted : {rule_lines : List RStep} (lines : List PStep)
@@ -41,14 +41,16 @@ pub record IsTextOfLines (f : FileContent) (Is : List PStep → List ℕ → Typ
   pub of_run : AreLinesOf f r lines
   pub written : Is lines text
 
--- the lines are a run of the process: the run itself; or, where it is one of rules, a run that is opposite to it
+-- the lines are a run of the process: the run itself; or, where it is one of rules, the run that it is converted to, which is opposite
+-- to it
 pub data AreOwnOrOpposite (f : FileContent) : Run → List PStep → Type 0 where
   own : (lines : List PStep) → AreOwnOrOpposite f (run.Process lines) lines
   opposite : {rule_lines : List RStep} (lines : List PStep) → AreOpposite f lines rule_lines
+      → back.IsConvertedToProcess f.signature f.process rule_lines lines
       → AreOwnOrOpposite f (run.Rules rule_lines) lines
 
--- The text tells the run itself, or one opposite to it, which is legal within the limit and shows this; and it ends with what is judged
--- of the run that was read.
+-- The text tells the run itself, or the one of the process that it is converted to, which is legal within the limit and shows this; and
+-- it ends with what is judged of the run that was read.
 pub record IsToldOf (f : FileContent) (r : Run) (text : List ℕ) : Type 0 where
   pub lines : List PStep
   pub of_run : AreOwnOrOpposite f r lines
@@ -56,7 +58,8 @@ pub record IsToldOf (f : FileContent) (r : Run) (text : List ℕ) : Type 0 where
   pub seen : IsSeen f (run.Process lines) written.trace
   pub judged : IsJudgedText f r written.verdicts
 
--- The text is the chart of the run itself, or of one opposite to it, which is legal within the limit and shows this.
+-- The text is the chart of the run itself, or of the one of the process that it is converted to, which is legal within the limit and
+-- shows this.
 pub record IsDrawnOf (f : FileContent) (r : Run) (text : List ℕ) : Type 0 where
   pub lines : List PStep
   pub of_run : AreOwnOrOpposite f r lines

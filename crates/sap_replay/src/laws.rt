@@ -16,15 +16,17 @@ ghost use Rattle.sap_formula.specs.Form.{LemmaForm, RestrictionForm};
 ghost use Rattle.sap_formula.specs.Laws.{IsClosed};
 ghost use Rattle.sap_formula.specs.Truth.{EachIn};
 ghost use Rattle.sap_read.specs.Files.{FileContent, IsRunnable};
+ghost use Rattle.sap_run_texts.specs.RunPrinted.{process_run_text};
 ghost use Rattle.sap_run_texts.specs.declared.run.Run.{Run};
 ghost use Rattle.sap_run_texts.specs.declared.run.Run.TheVariants as runs;
 ghost use Rattle.sap_runs.specs.declared.process_step.PStep.{PStep};
 ghost use Rattle.sap_runs.specs.declared.rule_step.RStep.{RStep};
 ghost use Rattle.sap_replay.specs.Replays.{AreOpposite, IsJudgedAlike, IsJudgedText, IsOppositeText, IsSeen};
 ghost use Rattle.sap_replay.specs.RunRefusals.{IsIllegal, IsIllegalOfTheory};
+ghost use Rattle.sap_replay.specs.ToldRuns.{IsDrawnOf, IsToldOf};
 ghost use Rattle.sap_replay.specs.Laws.{LegalRunsAreNotRefused, RefusedRunsHaveOneCause, TextsMeanWhatTheySay};
 
-use sap_back::{names_stand_in_lines, rule_runs_have_one_answer};
+use sap_back::{names_stand_in_lines, one_converted_run, rule_runs_have_one_answer};
 use sap_chart::drawn_runs_are_legal;
 use sap_formula::faultless_formulas_are_checked;
 use sap_forward::process_runs_have_one_answer;
@@ -109,6 +111,22 @@ pub fn verdicts_are_kept()
 pub fn written_runs_are_judged_alike()
     ensures { (f : FileContent) (r : Run) (text : List ℕ) → IsOppositeText f r text → IsJudgedAlike f r text }
 {}
+
+/// A law: of a run of the rules of a file that can run `to-process` writes one text, and `tell` and `chart` speak of the run of the
+/// process that this is the text of.
+pub fn one_run_is_written_told_and_drawn()
+    ensures written { (f : FileContent) (rule_lines : List RStep) (text other : List ℕ) → IsRunnable f
+        → IsOppositeText f (runs.Rules rule_lines) text → IsOppositeText f (runs.Rules rule_lines) other
+        → text ≡ other }
+    ensures told { (f : FileContent) (rule_lines : List RStep) (text other : List ℕ) → IsRunnable f
+        → IsOppositeText f (runs.Rules rule_lines) text → (told : IsToldOf f (runs.Rules rule_lines) other)
+        → text ≡ process_run_text told.lines }
+    ensures drawn { (f : FileContent) (rule_lines : List RStep) (text other : List ℕ) → IsRunnable f
+        → IsOppositeText f (runs.Rules rule_lines) text → (drawn : IsDrawnOf f (runs.Rules rule_lines) other)
+        → text ≡ process_run_text drawn.lines }
+{
+    one_converted_run();
+}
 
 /// A law: what a run of a file that can run shows, a run of its process or of its rules, are messages.
 pub(crate) fn seen_traces_are_messages()

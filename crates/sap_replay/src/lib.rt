@@ -27,8 +27,8 @@ pub use json::{json_of, run_of_json};
 pub use json_laws::json_comes_back;
 pub use judged_laws::one_judged_text;
 pub use laws::{
-    legal_runs_are_not_refused, refused_runs_have_one_cause, texts_mean_what_they_say,
-    verdicts_are_kept, written_runs_are_judged_alike,
+    legal_runs_are_not_refused, one_run_is_written_told_and_drawn, refused_runs_have_one_cause,
+    texts_mean_what_they_say, verdicts_are_kept, written_runs_are_judged_alike,
 };
 pub use reading::{MOST_BYTES, accepted_file};
 pub use replay::replayed;

@@ -1,4 +1,4 @@
-use Rattle.sap_back.proofs.LinesTried.{alone, in_order, symbol, six, waits, shown_next, taken, not_taken}
+use Rattle.sap_back.proofs.LinesTried.{alone, in_order, symbol, waits, shown_next, taken, not_taken}
 use Rattle.sap_back.proofs.laws.turns_by_hand.Goals as goal
 
 pub returns : goal.returns
@@ -6,7 +6,6 @@ returns c = record {
   alone = alone;
   in_order = in_order;
   symbol = symbol;
-  six = six;
   waits = waits;
   shown_next = shown_next;
   taken = taken;
