@@ -126,7 +126,7 @@ module _ (g : Sig) (q : Proc) where
           short = omega arith;
         };
         count = omega arith;
-        turns = record { own = lines; last = tables.pending; each = w.turns; is = written };
+        turns = record { own = lines; last = tables; each = w.turns; is = written };
       }
 
 -- one more line, where a loop over the lines has reached the one with number k
