@@ -1,5 +1,5 @@
 -- Heads over what stands below them.
-use Rattle.std.proofs.Common.{◌≡◌, ◌<◌, ℕ, Bool, List, ◌++◌, Result, Ok, Err, IfOk, refl, arith, ap, ap₂, sym, subst, ◌∙◌}
+use Rattle.std.proofs.Common.{◌≡◌, ◌<◌, ℕ, Bool, List, ◌++◌, refl, arith, ap, ap₂, sym, subst, ◌∙◌}
 use Rattle.sap_process.specs.Action.{Action}
 use Rattle.sap_process.specs.Proc as whole
 use Rattle.sap_process.specs.Proc.{Proc}
@@ -16,11 +16,6 @@ use Rattle.sap_macro.proofs.Bound.{with_names-append}
 use Rattle.sap_macro.specs.UpToNames.{named}
 use Rattle.sap_macro.proofs.Built.{built_same}
 use Rattle.sap_macro.proofs.Watched.{put_action, put_name, put_term}
-
--- what two facts of a value show
-pub both_ok : {T E : Type 0} (r : Result T E) (P Q R : T → Type 0) → ((x : T) → P x → Q x → R x) → IfOk r P → IfOk r Q → IfOk r R
-both_ok (Ok x) P Q R f p q = f x p q
-both_ok (Err e) P Q R f p q = tt
 
 positive : (c : List ℕ → ℕ) (w : Written) → 0 < steps c w
 positive c nil = omega arith

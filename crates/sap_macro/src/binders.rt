@@ -16,34 +16,47 @@ use crate::definition::DefinitionList;
 use crate::index::{Index, form_of};
 use crate::source::{Below, Doing, Source};
 use sap_terms::{
-    Copied, FactList, Mem, Name, NameMap, NameSet, Term, Vars, push_facts_vars, push_vars,
+    Copied, FactList, Mem, Name, NameMap, NameSet, Term, Var, Vars, push_facts_vars, push_vars,
 };
 use std::alloc::Global;
 
-// Puts last the variables of the rule.
-fn push_rule_vars(
-    alloc: Global,
-    vars: &mut Vars,
-    l: &FactList,
-    e: &FactList,
-    r: &FactList,
-) -> Result<(), Mem>
-    ensures { OnOk result (vars.new ≡ vars.old ++ facts_vars (l.now ++ (e.now ++ r.now))) }
+// The variables of the pattern.
+fn pattern_vars(alloc: Global, t: &Term) -> Result<Vars, Mem>
+    ensures { IfOk result (λ vs. vs ≡ tree_vars (tree t.now)) }
 {
-    push_facts_vars(alloc, l, vars)?;
-    push_facts_vars(alloc, e, vars)?;
-    push_facts_vars(alloc, r, vars)
+    let mut vars = Vars::new(alloc);
+    push_vars(alloc, t, &mut vars)?;
+    Ok(vars)
 }
 
-// Puts last the variables that may be bound.
-fn push_bound(alloc: Global, vars: &mut Vars, first: &Doing) -> Result<(), Mem>
-    ensures { OnOk result (vars.new ≡ vars.old ++ binding_vars (doing first.now)) }
+// The variables of the rule.
+fn rule_vars(alloc: Global, l: &FactList, e: &FactList, r: &FactList) -> Result<Vars, Mem>
+    ensures { IfOk result (λ vs. vs ≡ facts_vars (l.now ++ (e.now ++ r.now))) }
+{
+    let mut vars = Vars::new(alloc);
+    push_facts_vars(alloc, l, &mut vars)?;
+    push_facts_vars(alloc, e, &mut vars)?;
+    push_facts_vars(alloc, r, &mut vars)?;
+    Ok(vars)
+}
+
+fn one_var(alloc: Global, x: &Var) -> Result<Vars, Mem>
+    ensures { IfOk result (λ vs. vs ≡ x.now ∷ []) }
+{
+    let mut vars = Vars::new(alloc);
+    vars.push(x.copy(alloc)?)?;
+    Ok(vars)
+}
+
+// The variables that may be bound.
+fn vars_of(alloc: Global, first: &Doing) -> Result<Vars, Mem>
+    ensures { IfOk result (λ vs. vs ≡ binding_vars (doing first.now)) }
 {
     match first {
-        Doing::New(x) => vars.push(x.copy(alloc)?),
-        Doing::In(t) | Doing::Recv(_, t) => push_vars(alloc, t, vars),
-        Doing::Embedded(l, e, r) => push_rule_vars(alloc, vars, l, e, r),
-        _ => Ok(()),
+        Doing::New(x) => one_var(alloc, x),
+        Doing::In(t) | Doing::Recv(_, t) => pattern_vars(alloc, t),
+        Doing::Embedded(l, e, r) => rule_vars(alloc, l, e, r),
+        _ => Ok(Vars::new(alloc)),
     }
 }
 
@@ -77,8 +90,7 @@ fn add_doing(
     ensures { OnOk result (own.new ≡ with_names own.old (other_names (λ x. is_some (value_at terms.now x))
         (binding_vars (doing first.now)))) }
 {
-    let mut vars = Vars::new(alloc);
-    push_bound(alloc, &mut vars, first)?;
+    let vars = vars_of(alloc, first)?;
     add_vars(terms, own, &vars)
 }
 
@@ -121,10 +133,14 @@ pub(crate) fn add_names(
     match below(form) {
         Below::Nothing => Ok(()),
         Below::Use(_, _) => Ok(()),
-        Below::One(p) => add_names(alloc, defs, index, terms, own, p),
+        Below::One(p) => {
+            add_names(alloc, defs, index, terms, own, p)?;
+            Ok(())
+        }
         Below::Two(p, q) => {
             add_names(alloc, defs, index, terms, own, p)?;
-            add_names(alloc, defs, index, terms, own, q)
+            add_names(alloc, defs, index, terms, own, q)?;
+            Ok(())
         }
     }
 }

@@ -213,23 +213,30 @@ fn build_in(
 {
     let form = form_of(defs, index, source);
     match below(form) {
-        Below::Nothing => ended(alloc),
+        Below::Nothing => {
+            let made = ended(alloc)?;
+            Ok(made)
+        }
         Below::Use(name, args) => match reached(alloc, defs, index, s, chosen, name, args)? {
-            None => ended(alloc),
+            None => {
+                let made = ended(alloc)?;
+                Ok(made)
+            }
             Some((inner, at)) => {
-                let made = build_in(alloc, defs, index, &inner, chosen, at);
-                drop(inner);
-                made
+                let made = build_in(alloc, defs, index, &inner, chosen, at)?;
+                Ok(made)
             }
         },
         Below::One(p) => {
             let next = build_in(alloc, defs, index, s, chosen, p)?;
-            over_one(alloc, s, form, next)
+            let made = over_one(alloc, s, form, next)?;
+            Ok(made)
         }
         Below::Two(p, q) => {
             let left = build_in(alloc, defs, index, s, chosen, p)?;
             let right = build_in(alloc, defs, index, s, chosen, q)?;
-            over_two(alloc, s, form, left, right)
+            let made = over_two(alloc, s, form, left, right)?;
+            Ok(made)
         }
     }
 }
@@ -248,9 +255,8 @@ fn build_with(
         ≡ (expansion (definitions defs.now) chosen.old (written main.now)).process) }
 {
     let first = nothing_put(alloc);
-    let made = build_in(alloc, defs, index, &first, chosen, main);
-    drop(first);
-    made
+    let made = build_in(alloc, defs, index, &first, chosen, main)?;
+    Ok(made)
 }
 
 // The same, where these are the names of the file.

@@ -33,16 +33,24 @@ fn see(
 {
     let form = form_of(defs, index, source);
     match below(form) {
-        Below::Nothing => ended(alloc),
-        Below::Use(name, args) => told(alloc, name, args),
+        Below::Nothing => {
+            let made = ended(alloc)?;
+            Ok(made)
+        }
+        Below::Use(name, args) => {
+            let made = told(alloc, name, args)?;
+            Ok(made)
+        }
         Below::One(p) => {
             let next = see(alloc, defs, index, s, p)?;
-            over_one(alloc, s, form, next)
+            let made = over_one(alloc, s, form, next)?;
+            Ok(made)
         }
         Below::Two(p, q) => {
             let left = see(alloc, defs, index, s, p)?;
             let right = see(alloc, defs, index, s, q)?;
-            over_two(alloc, s, form, left, right)
+            let made = over_two(alloc, s, form, left, right)?;
+            Ok(made)
         }
     }
 }
@@ -61,7 +69,6 @@ pub fn seen(
     ensures { IfOk result (λ p. proc p.value ≡ seen (plain (definitions defs.now) (written source.now))) }
 {
     let nothing = nothing_put(alloc);
-    let made = see(alloc, defs, index, &nothing, source);
-    drop(nothing);
-    made
+    let made = see(alloc, defs, index, &nothing, source)?;
+    Ok(made)
 }

@@ -10,7 +10,6 @@ ghost use Rattle.sap_process.specs.declared.flaw.Ill.TheVariants.{At};
 
 use crate::Process;
 use crate::flaw::{Flaw, Ill};
-use crate::joining::unboxed;
 use crate::scope::Scope;
 use crate::sorting::sorted;
 use crate::walk::first_flaw;
@@ -30,7 +29,7 @@ pub fn well_formed(alloc: Global, sig: &Signature, p: &Process) -> Result<Proces
     ensures well { IfOk result (λ q. IsReady sig.now (proc q)) }
     ensures flawed { (which : Flaw) (path : List ℕ) → IsErrOf result (At which path) → IsFirstFlaw sig.now (proc p.now) which path }
 {
-    unboxed(well_formed_boxed(alloc, sig, p))
+    Ok(Box::into_inner(well_formed_boxed(alloc, sig, p)?))
 }
 
 /// The same, in a box.
