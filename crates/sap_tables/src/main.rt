@@ -2,8 +2,35 @@
 //! How a row is written stands in docs/TESTS.md.
 #![tactic(auto)]
 
-use sap_call_rows::{put_file, report};
-use sap_rows::Page;
+mod calls;
+mod copies;
+mod deductions;
+mod derivations;
+mod desk;
+mod files;
+mod formulas;
+mod guards;
+mod json;
+mod knowledge;
+mod known;
+mod notation;
+mod page;
+mod piles;
+mod processes;
+mod refused;
+mod run_texts;
+mod runs;
+mod sharing;
+mod short_runs;
+mod show;
+mod tables;
+mod terms;
+mod theories;
+mod tokens;
+mod told;
+
+use calls::put_file;
+use page::Page;
 use std::collections::BTreeMap;
 use std::io::Write;
 use std::{env, fs, io};
@@ -18,7 +45,7 @@ fn tell_table(rt: &HostRuntime, out: &mut Page, table: &str) -> io::Result<()> {
             put_file(out, &mut files, name, text.as_bytes());
         }
     }
-    report(out, table, rows.as_str(), files);
+    tables::report(out, table, rows.as_str(), files);
     Ok(())
 }
 

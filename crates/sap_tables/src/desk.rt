@@ -1,0 +1,60 @@
+//! What the rows of a table have made so far, where they go on from one another.
+use crate::known::Known;
+use crate::notation::{list, name, signature};
+use crate::page::Page;
+use sap_calc::Config;
+use sap_facts::Pile;
+use sap_rule::Theory;
+use sap_steps::RuleState;
+use sap_terms::{Items, Signature, Term};
+use sap_tool::MemShelf;
+
+/// The symbols and terms of a row, and facts, a theory, knowledge, a run of rules and one of a process, and files by name.
+#[derive(Drop)]
+pub struct Desk {
+    pub signature: Signature,
+    pub terms: Items<Term>,
+    pub pile: Pile,
+    pub theory: Theory,
+    pub knowledge: Option<Box<Known>>,
+    pub run: Option<Box<RuleState>>,
+    pub config: Option<Box<Config>>,
+    pub shelf: MemShelf,
+}
+
+/// The theory T of these symbols, without rules, restrictions and lemmas.
+pub fn empty_theory(page: &mut Page, symbols: &str) -> Option<Theory> {
+    let (name, signature) = name(page.alloc, "T").zip(signature(page, symbols))?;
+    Some(Theory {
+        name,
+        signature,
+        rules: Items::new(page.alloc),
+        restrictions: Items::new(page.alloc),
+        lemmas: Items::new(page.alloc),
+    })
+}
+
+/// Before the first row.
+pub fn empty_desk(page: &mut Page, shelf: MemShelf) -> Option<Box<Desk>> {
+    let (signature, theory) = signature(page, "").zip(empty_theory(page, ""))?;
+    let desk = Desk {
+        signature,
+        terms: Items::new(page.alloc),
+        pile: Pile::new(page.alloc),
+        theory,
+        knowledge: None,
+        run: None,
+        config: None,
+        shelf,
+    };
+    Box::new(page.alloc, desk).ok()
+}
+
+impl Desk {
+    /// Begins a row over these symbols, with the terms that the text spells, with bars between them.
+    pub fn begin(&mut self, page: &mut Page, symbols: &str, terms: &str) {
+        let signature = signature(page, symbols);
+        page.set(&mut self.signature, signature);
+        self.terms = list(page, &self.signature, '|', terms);
+    }
+}

@@ -1,0 +1,75 @@
+//! Runs as JSON: what `to-json` and `from-json` make of bytes.
+use crate::calls::call_on;
+use crate::desk::Desk;
+use crate::notation::{between, enclosed, part};
+use crate::page::Page;
+
+// The words of the two commands.
+const TO_JSON: &str = "to-json b.run";
+
+const FROM_JSON: &str = "from-json b.run";
+
+// What stands before the arrays of steps.
+const PROCESS: &str = "{\"kind\":\"process-run\",\"steps\":[";
+
+const RULES: &str = "{\"kind\":\"rule-run\",\"steps\":[";
+
+// What the command writes of the run, or the status and the line that refuses it.
+fn answered(page: &mut Page, words: &str, run: &[u8]) -> Page {
+    let mut text = Page::new(page.alloc);
+    call_on(&mut text, "text", words, b"", run);
+    if !text.is_whole {
+        page.fail();
+    }
+    text
+}
+
+// Why the run is refused, or what stands between these two in the text, or all.
+fn show_inside(page: &mut Page, text: &[u8], before: &str, behind: &str) {
+    let cause = between(text, "2 err run refused: ", "\n");
+    match cause.or(between(text, before, behind)) {
+        Some(inside) => page.bytes(inside),
+        None => page.bytes(text),
+    }
+}
+
+/// `to` or `from`, the bytes, and what `to-json` or `from-json` writes, or why it refuses them. As `step` and `rule-step` a line of a run
+/// of one step, and the step's array; as `from-step` and `from-rule-step` an array, and the line. What is written as JSON is read again:
+/// where that doesn't give the bytes, what it gives stands behind a bar.
+pub fn json_row(page: &mut Page, row: &str) {
+    let kind = part(row, 0);
+    let (before, behind, first, last) = match kind {
+        "step" => ("process-run\n", "\n", PROCESS, "]}\n"),
+        "rule-step" => ("rule-run\n", "\n", RULES, "]}\n"),
+        "from-step" => (PROCESS, "]}", "process-run\n", "\n"),
+        "from-rule-step" => (RULES, "]}", "rule-run\n", "\n"),
+        _ => ("", "", "", ""),
+    };
+    let words = if kind.starts_with("from") {
+        FROM_JSON
+    } else {
+        TO_JSON
+    };
+    let bytes = enclosed(page.alloc, before, part(row, 1), behind);
+    let text = answered(page, words, bytes.as_bytes());
+    show_inside(page, text.as_bytes(), first, last);
+    if text.as_bytes().starts_with(b"{") {
+        let again = answered(page, FROM_JSON, text.as_bytes());
+        if again.as_bytes() != bytes.as_bytes() {
+            page.word(" | ");
+            show_inside(page, again.as_bytes(), before, behind);
+        }
+    }
+}
+
+/// What the run of this file is as JSON, and that read again.
+pub fn example_row(page: &mut Page, desk: &Desk, name: &str) {
+    match desk.shelf.files.get(name) {
+        Some(run) => {
+            let text = answered(page, TO_JSON, run.as_slice());
+            let again = answered(page, FROM_JSON, text.as_bytes());
+            page.bytes(again.as_bytes());
+        }
+        None => page.fail(),
+    }
+}

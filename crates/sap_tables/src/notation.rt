@@ -1,0 +1,324 @@
+//! How rows are written: their parts, line feeds, bytes and repetitions, and what the texts of parts stand for.
+use crate::page::Page;
+use sap_grammar::read_facts;
+use sap_read::{FILE_LIMITS, read_term};
+use sap_rule::Rule;
+use sap_run_texts::read_rrun;
+use sap_runs::RStep;
+use sap_terms::{
+    Binding, Bindings, Builtin, Copied, Fact, FactList, Items, Mem, Name, SigFault, Signature,
+    Sort, Term, TermList, Trace, Var, subst,
+};
+use sap_text::{Token, tokens};
+use std::alloc::Global;
+use std::str;
+
+fn nth(text: &str, mark: char, k: usize) -> &str {
+    match text.split(mark).nth(k) {
+        Some(piece) => piece.trim(),
+        None => "",
+    }
+}
+
+/// The part of a row with this number, from 0, without blanks around it; empty where there are fewer parts.
+pub fn part(row: &str, k: usize) -> &str {
+    nth(row, '%', k)
+}
+
+/// The first word, and what stands behind the blank that follows it.
+pub fn parted(text: &str) -> (&str, &str) {
+    text.split_once(' ').unwrap_or((text, ""))
+}
+
+/// What stands between these two texts; nothing where the bytes don't begin and end with them.
+pub fn between<'a>(bytes: &'a [u8], before: &str, after: &str) -> Option<&'a [u8]> {
+    bytes
+        .strip_prefix(before.as_bytes())?
+        .strip_suffix(after.as_bytes())
+}
+
+/// The number that the part spells in decimal.
+pub fn number(page: &mut Page, text: &str) -> u64 {
+    match text.parse::<u64>() {
+        Ok(number) => number,
+        Err(_) => {
+            page.fail();
+            0
+        }
+    }
+}
+
+// The text with line feeds where `^` stands; and, if there is a number, with it where `#` stands, and the next one where `?` does.
+fn push_text(page: &mut Page, text: &str, number: Option<u64>) {
+    for byte in text.as_bytes() {
+        match (*byte, number) {
+            (b'^', _) => page.byte(b'\n'),
+            (b'#', Some(k)) => page.numbered("", k),
+            (b'?', Some(k)) => page.numbered("", k.saturating_add(1)),
+            (byte, _) => page.byte(byte),
+        }
+    }
+}
+
+fn digit(c: u8) -> u8 {
+    if c < b'a' {
+        c.wrapping_sub(b'0')
+    } else {
+        c.wrapping_sub(b'a').wrapping_add(10)
+    }
+}
+
+// What stands between braces: a number of times and a text, with the number of each where `#` stands and the next one where `?`
+// does, or two hexadecimal digits.
+fn push_braced(page: &mut Page, inside: &str) {
+    match (inside.split_once(':'), inside.as_bytes()) {
+        (Some((times, text)), _) => {
+            for k in 0..times.parse::<u32>().unwrap_or(0) {
+                push_text(page, text, Some(k as u64));
+            }
+        }
+        (None, [high, low]) => page.byte(digit(*high).wrapping_mul(16).wrapping_add(digit(*low))),
+        _ => {}
+    }
+}
+
+/// The bytes that a part stands for, with others before and behind: `^` is a line feed, `{0a}` the byte of two hexadecimal digits,
+/// `{3:a#}` is `a0a1a2`, `{3:a?}` is `a1a2a3`, and `{}` is nothing.
+pub fn enclosed(alloc: Global, before: &str, text: &str, behind: &str) -> Page {
+    let mut page = Page::new(alloc);
+    page.word(before);
+    for piece in text.split('{') {
+        let (inside, rest) = piece.split_once('}').unwrap_or(("", piece));
+        push_braced(&mut page, inside);
+        push_text(&mut page, rest, None);
+    }
+    page.word(behind);
+    page
+}
+
+/// The bytes that a part stands for.
+pub fn written(alloc: Global, text: &str) -> Page {
+    enclosed(alloc, "", text, "")
+}
+
+/// The bytes of a file: what the part says between a header and `end`, or what stands behind `=`.
+pub fn file_bytes(alloc: Global, text: &str) -> Page {
+    match text.strip_prefix('=') {
+        Some(whole) => written(alloc, whole),
+        None => enclosed(alloc, "theory T begin ", text, " end"),
+    }
+}
+
+/// The name of these bytes; none where memory is wanting.
+pub fn name(alloc: Global, text: &str) -> Option<Name> {
+    Name::from_bytes(alloc, text.as_bytes()).ok()
+}
+
+/// What a text stands for.
+pub trait FromText: Sized {
+    /// What the text stands for under the signature; none where it stands for nothing, or memory is wanting.
+    fn from_text(page: &mut Page, sig: &Signature, text: &str) -> Option<Self>;
+}
+
+/// What the texts stand for that are between the marks, without blanks around them; an empty one stands for nothing.
+pub fn list<T: FromText + Drop>(
+    page: &mut Page,
+    sig: &Signature,
+    mark: char,
+    texts: &str,
+) -> Items<T> {
+    let mut list = Items::new(page.alloc);
+    for text in texts.split(mark) {
+        let text = text.trim();
+        if !text.is_empty() {
+            let item = T::from_text(page, sig, text);
+            page.put(&mut list, item);
+        }
+    }
+    list
+}
+
+impl FromText for u64 {
+    fn from_text(page: &mut Page, _sig: &Signature, text: &str) -> Option<u64> {
+        Some(number(page, text))
+    }
+}
+
+impl FromText for Name {
+    fn from_text(page: &mut Page, _sig: &Signature, text: &str) -> Option<Name> {
+        name(page.alloc, text)
+    }
+}
+
+// `x`, `~x`, `$x`.
+impl FromText for Var {
+    fn from_text(page: &mut Page, _sig: &Signature, text: &str) -> Option<Var> {
+        let (sort, rest) = match text.as_bytes() {
+            [b'~', rest @ ..] => (Sort::Fresh, rest),
+            [b'$', rest @ ..] => (Sort::Pub, rest),
+            rest => (Sort::Msg, rest),
+        };
+        let name = Name::from_bytes(page.alloc, rest).ok()?;
+        Some(Var { name, sort })
+    }
+}
+
+// `x = 'a'`.
+impl FromText for Binding {
+    fn from_text(page: &mut Page, sig: &Signature, text: &str) -> Option<Binding> {
+        let (var, bound) = text.split_once('=')?;
+        let var = Var::from_text(page, sig, var.trim());
+        let (var, term) = var.zip(named_term(page, sig, bound.trim()))?;
+        Some(Binding { var, term })
+    }
+}
+
+// With the fresh names 0 to 9 in place of the variables ~n0 to ~n9; behind `where` stand bindings, whose instance it is:
+// `<x,y> where x = 'a'; y = ~n1`.
+impl FromText for Term {
+    fn from_text(page: &mut Page, sig: &Signature, text: &str) -> Option<Term> {
+        let (text, bound) = text.split_once(" where ").unwrap_or((text, ""));
+        let term = named_term(page, sig, text);
+        let bound = list(page, sig, ';', bound);
+        subst(page.alloc, &term?, &bound).ok()
+    }
+}
+
+/// What was read, without the number of the token behind it.
+pub fn first<T: Drop>(read: Result<Option<(T, u64)>, Mem>) -> Option<T> {
+    match read {
+        Ok(Some((value, _))) => Some(value),
+        _ => None,
+    }
+}
+
+/// The tokens of the bytes; none where a fault stands in them.
+pub fn tokens_of(alloc: Global, bytes: &[u8]) -> Vec<Token> {
+    match tokens(alloc, bytes, 64) {
+        Ok(found) => found,
+        Err(_) => Vec::new(alloc),
+    }
+}
+
+// The variables ~n0 to ~n9 stand for the fresh names 0 to 9.
+const FRESH_NAMES: &str =
+    "rule-run\nrule R with ~n0=~0 ~n1=~1 ~n2=~2 ~n3=~3 ~n4=~4 ~n5=~5 ~n6=~6 ~n7=~7 ~n8=~8 ~n9=~9\n";
+
+fn with_fresh_names(alloc: Global, term: &Term) -> Option<Term> {
+    match read_rrun(alloc, FRESH_NAMES.as_bytes()).ok()?.as_slice() {
+        [RStep::Rule(_, _, names)] => subst(alloc, term, names).ok(),
+        _ => None,
+    }
+}
+
+// The term that the text spells, with fresh names.
+fn named_term(page: &mut Page, sig: &Signature, text: &str) -> Option<Term> {
+    let bytes = written(page.alloc, text);
+    let found = tokens_of(page.alloc, bytes.as_bytes());
+    let term = first(read_term(page.alloc, sig, bytes.as_bytes(), &found, 0));
+    if text.contains("~n") {
+        with_fresh_names(page.alloc, &term?)
+    } else {
+        term
+    }
+}
+
+// The facts that the bytes spell up to the bracket at their end.
+fn spelled_facts(alloc: Global, sig: &Signature, bytes: &[u8]) -> Option<FactList> {
+    let found = tokens_of(alloc, bytes);
+    match read_facts(alloc, sig, FILE_LIMITS, bytes, true, "]", found.as_slice()) {
+        Ok(Some((facts, []))) => Some(facts),
+        _ => None,
+    }
+}
+
+// The fact with fresh names.
+fn named_fact(alloc: Global, fact: &Fact) -> Option<Fact> {
+    let mut args = TermList::new(alloc);
+    for arg in fact.args.as_slice() {
+        args.push(with_fresh_names(alloc, arg)?).ok()?;
+    }
+    Some(Fact {
+        name: fact.name.copy(alloc).ok()?,
+        persistent: fact.persistent,
+        args,
+    })
+}
+
+/// The facts that the text spells under the signature, with commas between them and with fresh names.
+pub fn facts(page: &mut Page, sig: &Signature, text: &str) -> FactList {
+    let mut list = FactList::new(page.alloc);
+    let bytes = enclosed(page.alloc, "", text, " ]");
+    match spelled_facts(page.alloc, sig, bytes.as_bytes()) {
+        Some(spelled) if !text.contains("~n") => return spelled,
+        Some(spelled) => {
+            for fact in spelled.as_slice() {
+                let fact = named_fact(page.alloc, fact);
+                page.put(&mut list, fact);
+            }
+        }
+        None => page.fail(),
+    }
+    list
+}
+
+/// The facts of times, with bars between them.
+pub fn trace(page: &mut Page, sig: &Signature, text: &str) -> Trace {
+    let mut trace = Trace::new(page.alloc);
+    let bytes = written(page.alloc, text);
+    match str::from_utf8(bytes.as_bytes()) {
+        Ok(text) if !text.is_empty() => {
+            for time in text.split('|') {
+                let facts = facts(page, sig, time);
+                page.put(&mut trace, Some(facts));
+            }
+        }
+        _ => {}
+    }
+    trace
+}
+
+/// The rule of a line: its name, its left side, its acts and its right side, with bars between them.
+pub fn rule(page: &mut Page, sig: &Signature, line: &str) -> Option<Rule> {
+    let name = name(page.alloc, nth(line, '|', 0))?;
+    Some(Rule {
+        name,
+        left: facts(page, sig, nth(line, '|', 1)),
+        acts: facts(page, sig, nth(line, '|', 2)),
+        right: facts(page, sig, nth(line, '|', 3)),
+    })
+}
+
+/// Adds a builtin, or a symbol with its arity, behind `-` where it is private, and gives the answer.
+pub fn add(page: &mut Page, sig: &mut Signature, word: &str) -> Result<(), SigFault> {
+    match word {
+        "hashing" => sig.add_builtin(Builtin::Hashing),
+        "symmetric" => sig.add_builtin(Builtin::Symmetric),
+        "asymmetric" => sig.add_builtin(Builtin::Asymmetric),
+        "signing" => sig.add_builtin(Builtin::Signing),
+        "revealing" => sig.add_builtin(Builtin::RevealingSigning),
+        _ => declare(page, sig, word),
+    }
+}
+
+fn declare(page: &mut Page, sig: &mut Signature, word: &str) -> Result<(), SigFault> {
+    let symbol = word.strip_prefix('-').unwrap_or(word);
+    let (f, arity) = symbol.split_once('/').unwrap_or((symbol, ""));
+    let arity = number(page, arity);
+    match name(page.alloc, f) {
+        Some(f) => sig.declare(f, arity, word.starts_with('-')),
+        None => Err(SigFault::Mem),
+    }
+}
+
+/// The signature of these words, each a builtin or a symbol with its arity, behind `-` where it is private:
+/// `hashing symmetric asymmetric signing revealing f/2 -k/1`.
+pub fn signature(page: &mut Page, words: &str) -> Option<Signature> {
+    let mut sig = Signature::new(page.alloc).ok()?;
+    for word in words.split(' ') {
+        if !word.is_empty() && add(page, &mut sig, word).is_err() {
+            page.fail();
+        }
+    }
+    Some(sig)
+}

@@ -1,0 +1,150 @@
+//! Theories that rows make or spell, and how they are printed; rules.
+use crate::desk::empty_theory;
+use crate::formulas::formula;
+use crate::notation::{file_bytes, list, name, part, rule};
+use crate::page::Page;
+use crate::show::Show;
+use sap_formula::{Formula, Lemma, Mode, Restriction};
+use sap_refusals::theory_line;
+use sap_rule::{Rule, Theory, is_well_made, open_vars};
+use sap_terms::{Copied, Signature};
+use sap_text::Text;
+use sap_theory::{TheoryFault, print, read_theory};
+use std::alloc::Global;
+
+/// Begins a theory of these symbols anew, in which nothing stands yet.
+pub fn begin(page: &mut Page, t: &mut Theory, symbols: &str) {
+    let theory = empty_theory(page, symbols);
+    page.set(t, theory);
+}
+
+/// Adds to the theory a restriction of a name and the text of a formula.
+pub fn add_restriction(page: &mut Page, t: &mut Theory, title: &str, text: &str) {
+    let formula = formula(page, &t.signature, text);
+    match name(page.alloc, title).zip(formula) {
+        Some((name, formula)) => page.put(
+            &mut t.restrictions,
+            Some(Restriction {
+                name,
+                formula: Box::into_inner(formula),
+            }),
+        ),
+        None => page.fail(),
+    }
+}
+
+/// The mode of lemmas, `all` or `some`.
+pub fn mode_of(word: &str) -> Mode {
+    match word {
+        "all" => Mode::AllTraces,
+        _ => Mode::ExistsTrace,
+    }
+}
+
+/// Adds to the theory a lemma of a row: its name, its attributes, its mode, which is `all` or `some`, and its formula.
+pub fn add_lemma(page: &mut Page, t: &mut Theory, row: &str, formula: Option<Box<Formula>>) {
+    let attributes = list(page, &t.signature, ' ', part(row, 2));
+    match name(page.alloc, part(row, 1)).zip(formula) {
+        Some((name, formula)) => page.put(
+            &mut t.lemmas,
+            Some(Lemma {
+                name,
+                attributes,
+                mode: mode_of(part(row, 3)),
+                formula: Box::into_inner(formula),
+            }),
+        ),
+        None => page.fail(),
+    }
+}
+
+// `theory` and symbols begins anew; `rule`, `restriction` and `lemma` add one; and how many there are of the kind.
+fn made_row(page: &mut Page, t: &mut Theory, row: &str) {
+    match part(row, 0) {
+        "theory" => {
+            begin(page, t, part(row, 1));
+            page.numbered("", t.rules.len());
+        }
+        "rule" => {
+            let rule = rule(page, &t.signature, part(row, 1));
+            page.put(&mut t.rules, rule);
+            page.numbered("", t.rules.len());
+        }
+        "restriction" => {
+            add_restriction(page, t, part(row, 1), part(row, 2));
+            page.numbered("", t.restrictions.len());
+        }
+        "lemma" => {
+            let formula = formula(page, &t.signature, part(row, 4));
+            add_lemma(page, t, row, formula);
+            page.numbered("", t.lemmas.len());
+        }
+        _ => page.fail(),
+    }
+}
+
+fn show_rule(page: &mut Page, sig: &Signature, kind: &str, r: &Rule) {
+    match kind {
+        "runs" => page.show(is_well_made(page.alloc, sig, r)),
+        "open" => page.show(open_vars(page.alloc, sig, r)),
+        _ => page.show(r.copy(page.alloc)),
+    }
+}
+
+/// `runs`, a rule, and whether it can be run; `open`, a rule, and the variables that a line has to bind; `copied`, a rule, and its
+/// copy; `first`, a name, and the first rule of the theory that has it, or `none`; and rows that make the theory.
+pub fn rules_row(page: &mut Page, t: &mut Theory, row: &str) {
+    match part(row, 0) {
+        "runs" | "open" | "copied" => match &rule(page, &t.signature, part(row, 1)) {
+            Some(rule) => show_rule(page, &t.signature, part(row, 0), rule),
+            None => page.fail(),
+        },
+        "first" => match &name(page.alloc, part(row, 1)) {
+            Some(name) => page.show(t.rule_named(name)),
+            None => page.fail(),
+        },
+        _ => made_row(page, t, row),
+    }
+}
+
+// Puts last the theory as it is printed, with copies in place of its restrictions and lemmas.
+fn show_theory(page: &mut Page, t: &mut Theory) {
+    let restrictions = t.restrictions.copy(page.alloc).ok();
+    page.set(&mut t.restrictions, restrictions);
+    let lemmas = t.lemmas.copy(page.alloc).ok();
+    page.set(&mut t.lemmas, lemmas);
+    page.text(print(page.alloc, t), "", "");
+}
+
+/// Rows that make a theory, and `print`, its text; `symbols`, and the text of the theory that has these alone.
+pub fn theories_row(page: &mut Page, t: &mut Theory, row: &str) {
+    match part(row, 0) {
+        "print" => show_theory(page, t),
+        "symbols" => {
+            begin(page, t, part(row, 1));
+            show_theory(page, t);
+        }
+        _ => made_row(page, t, row),
+    }
+}
+
+// The text of the theory that these bytes are.
+fn printed_again(alloc: Global, bytes: &[u8]) -> Result<Text, TheoryFault> {
+    let theory = read_theory(alloc, bytes)?;
+    Ok(print(alloc, &theory)?)
+}
+
+/// The theory that these bytes are, as it is printed, or why they are none; `same` where that is asked and the bytes are the text.
+pub fn show_read(page: &mut Page, bytes: &[u8], asked: bool) {
+    match printed_again(page.alloc, bytes) {
+        Ok(text) if asked && text.as_bytes() == bytes => page.word("same"),
+        Ok(text) => page.bytes(text.as_bytes()),
+        Err(fault) => page.text(theory_line(page.alloc, &fault), "file refused: ", "\n"),
+    }
+}
+
+/// A theory, and its text as it is printed, or why it is refused.
+pub fn read_row(page: &mut Page, row: &str) {
+    let bytes = file_bytes(page.alloc, part(row, 0));
+    show_read(page, bytes.as_bytes(), false);
+}
