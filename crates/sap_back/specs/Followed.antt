@@ -1,5 +1,5 @@
 -- Which lines of the process a conversion writes for a line of rules, by its tables.
-use Rattle.std.specs.Prelude.{◌≡◌, ◌+◌, ℕ, List, [], ◌∷◌, ◌++◌, Option, Some, None, map, codes, length, slice_get, slice_set}
+use Rattle.std.specs.Prelude.{◌≡◌, ℕ, List, [], ◌∷◌, ◌++◌, Option, Some, None, map, codes, length, slice_get, slice_set}
 use Rattle.sap_terms.specs.AdversaryFacts.{fr_fact}
 use Rattle.sap_terms.specs.Choice.{Choice}
 use Rattle.sap_terms.specs.Equations.{equations}
