@@ -17,7 +17,7 @@ record IsOfLines (f : FileContent) (rule_lines : List RStep) (text : List ℕ) :
 
 module _ (f : FileContent) (rule_lines : List RStep) where
   of_lines : (text : List ℕ) → IsOppositeText f (run.Rules rule_lines) text → IsOfLines f rule_lines text
-  of_lines _ (process_of_rules lines opposite converted alike read) = record { lines = lines; converted = converted; layout = refl }
+  of_lines _ (process_of_rules lines legal converted alike read) = record { lines = lines; converted = converted; layout = refl }
 
   converted_to : (lines : List PStep) → AreOwnOrOpposite f (run.Rules rule_lines) lines → back.IsConvertedToProcess f.signature f.process rule_lines lines
   converted_to _ (opposite lines o c) = c
