@@ -1,7 +1,8 @@
 -- Faults that have nothing to do with the binders round a part.
 use Rattle.std.proofs.Common.{◌≡◌, ℕ, List, [], ◌∷◌, ◌++◌, Bool, false, map, length, Some, refl, sym, ap, ap₂, ◌∙◌}
 use Rattle.std.specs.Prelude.{if◌then◌else◌}
-use Rattle.sap_formula.proofs.Firsts.{first-append, or_name}
+use Rattle.std.specs.Option.{option_or}
+use Rattle.sap_formula.proofs.Firsts.{first-append}
 use Rattle.sap_formula.specs.Checked.{enter, premise}
 use Rattle.sap_formula.specs.Form.{Form, action, both, earlier, either, equal, equivalent, every, exists, falsity, implies, negation, same_time, truth}
 use Rattle.sap_formula.specs.Parts.{Part, symbol, fact_name, message, time, bound, part_name, form_parts, term_parts, terms_parts}
@@ -20,7 +21,7 @@ IsElsewhere g r w = ((scope : List Binder) (v : Var) → has_fault g r w (messag
 module _ (g : Sig) (r : Bool) (w : FormulaFlaw) (h : IsElsewhere g r w) where
   -- lists of parts with the same first name, one behind the other
   appended : (ps qs ps' qs' : List Part) → first_name g r w ps ≡ first_name g r w ps' → first_name g r w qs ≡ first_name g r w qs' → first_name g r w (ps ++ qs) ≡ first_name g r w (ps' ++ qs')
-  appended ps qs ps' qs' e d = first-append g r w ps qs ∙ ap₂ or_name e d ∙ sym (first-append g r w ps' qs')
+  appended ps qs ps' qs' e d = first-append g r w ps qs ∙ ap₂ option_or e d ∙ sym (first-append g r w ps' qs')
 
   -- a part before them
   behind : (p : Part) (ps qs : List Part) → first_name g r w ps ≡ first_name g r w qs → first_name g r w (p ∷ ps) ≡ first_name g r w (p ∷ qs)

@@ -1,7 +1,7 @@
 -- The first part that has a fault.
-use Rattle.std.proofs.Common.{◌≡◌, ℕ, zero, suc, ◌+◌, List, [], ◌∷◌, ◌++◌, Bool, true, false, Option, Some, None, length, drop, take, map, refl, sym, ap, ◌∙◌, append_assoc, arith}
+use Rattle.std.proofs.Common.{◌≡◌, ℕ, zero, suc, ◌+◌, List, [], ◌∷◌, ◌++◌, Bool, Bor, true, false, Option, Some, None, length, drop, take, map, refl, sym, ap, ◌∙◌, append_assoc, arith}
 use Rattle.std.specs.Prelude.{if◌then◌else◌, slice_get}
-use Rattle.std.specs.Option.{option_or}
+use Rattle.std.specs.Option.{option_copied, option_or}
 use Rattle.std.specs.Str.{bytes_eq}
 use Rattle.sap_terms.specs.Named.{first_named}
 use Rattle.sap_terms.proofs.PlainLaws.Lists.{take_got}
@@ -15,15 +15,10 @@ use Rattle.sap_formula.specs.Parts.{Part, symbol, part_name, term_parts, terms_p
 use Rattle.sap_formula.specs.code.Tests.{first_name, has_fault}
 use Rattle.sap_formula.specs.declared.fault.FormulaFlaw.{FormulaFlaw}
 
--- the first of the two
-abbrev pub or_name : Option (List ℕ) → Option (List ℕ) → Option (List ℕ)
-or_name None o = o
-or_name (Some n) o = Some n
-
-pub first-append : (g : Sig) (r : Bool) (w : FormulaFlaw) (ps qs : List Part) → first_name g r w (ps ++ qs) ≡ or_name (first_name g r w ps) (first_name g r w qs)
+pub first-append : (g : Sig) (r : Bool) (w : FormulaFlaw) (ps qs : List Part) → first_name g r w (ps ++ qs) ≡ option_or (first_name g r w ps) (first_name g r w qs)
 first-append g r w [] qs = refl
 first-append g r w (p ∷ ps) qs = at (has_fault g r w p) (first-append g r w ps qs) where
-  at : (b : Bool) → first_name g r w (ps ++ qs) ≡ or_name (first_name g r w ps) (first_name g r w qs) → (if b then Some (part_name p) else first_name g r w (ps ++ qs)) ≡ or_name (if b then Some (part_name p) else first_name g r w ps) (first_name g r w qs)
+  at : (b : Bool) → first_name g r w (ps ++ qs) ≡ option_or (first_name g r w ps) (first_name g r w qs) → (if b then Some (part_name p) else first_name g r w (ps ++ qs)) ≡ option_or (if b then Some (part_name p) else first_name g r w ps) (first_name g r w qs)
   at true e = refl
   at false e = e
 
@@ -48,7 +43,12 @@ pub entered_more : (bs turned longer : List Binder) (k : ℕ) (b : Binder) → s
 entered_more bs turned longer k b got e i scope =
     i scope ∙ ap (λ cs. turned ++ enter cs scope) (take_got bs k b got) ∙ ap (λ cs. turned ++ cs) (enter-push (take k bs) b scope) ∙ sym (append_assoc turned (b ∷ []) (enter (take k bs) scope)) ∙ ap (λ cs. cs ++ enter (take k bs) scope) (sym e)
 
-pub or-none : (o : Option (List ℕ)) → or_name o None ≡ o
+-- a name that is lent, else another
+pub or-lent : {T : Type 0} (a b : Option (Bor T)) → option_copied (option_or a b) ≡ option_or (option_copied a) (option_copied b)
+or-lent None b = refl
+or-lent (Some n) b = refl
+
+pub or-none : (o : Option (List ℕ)) → option_or o None ≡ o
 or-none None = refl
 or-none (Some n) = refl
 
@@ -57,15 +57,17 @@ pub first-apply : (g : Sig) (r : Bool) (w : FormulaFlaw) (scope : List Binder) (
 first-apply g r w scope f ts = ap (λ (us : List Tree). if has_fault g r w (symbol f (length us)) then Some f else first_name g r w (terms_parts scope (trees_of ts))) (list_of-trees_of ts)
 
 -- the terms from time k on
-pub first-from : (g : Sig) (r : Bool) (w : FormulaFlaw) (scope : List Binder) (ts : List Tree) (k : ℕ) (t : Tree) → slice_get ts k ≡ Some t → first_name g r w (terms_parts scope (trees_of (drop k ts))) ≡ or_name (first_name g r w (term_parts scope t)) (first_name g r w (terms_parts scope (trees_of (drop (k + 1) ts))))
+pub first-from : (g : Sig) (r : Bool) (w : FormulaFlaw) (scope : List Binder) (ts : List Tree) (k : ℕ) (t : Tree) → slice_get ts k ≡ Some t → first_name g r w (terms_parts scope (trees_of (drop k ts))) ≡ option_or (first_name g r w (term_parts scope t)) (first_name g r w (terms_parts scope (trees_of (drop (k + 1) ts))))
 first-from g r w scope [] k t e = absurd (cc)
 first-from g r w scope (u ∷ ts) zero t e =
     let same : u ≡ t = cc in
-    first-append g r w (term_parts scope u) (terms_parts scope (trees_of ts)) ∙ ap (λ (x : Tree). or_name (first_name g r w (term_parts scope x)) (first_name g r w (terms_parts scope (trees_of ts)))) same
+    first-append g r w (term_parts scope u) (terms_parts scope (trees_of ts)) ∙ ap (λ (x : Tree). option_or (first_name g r w (term_parts scope x)) (first_name g r w (terms_parts scope (trees_of ts)))) same
 first-from g r w scope (u ∷ ts) (suc k) t e =
     let n : suc k + 1 ≡ suc (k + 1) = omega arith in rw n (first-from g r w scope ts k t e)
 
 pub ruleset first_laws = (first-append, first-apply, or-none, item_le-trees_count)
+
+pub ruleset form_laws = (first-append, or-lent)
 
 pub ruleset list_laws = (item_le-trees_count)
 

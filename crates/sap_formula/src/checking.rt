@@ -4,14 +4,14 @@ ghost use Rattle.sap_formula.specs.Faults.{HasNoFault, IsFirstFault, told};
 ghost use Rattle.sap_formula.specs.Laws.{Allowed};
 ghost use Rattle.sap_formula.specs.Parts.{form_parts};
 ghost use Rattle.sap_formula.specs.Sorted.{with_sorts};
-ghost use Rattle.sap_formula.specs.code.Tests.{first_fault, first_name, in_order};
+ghost use Rattle.sap_formula.specs.code.Tests.{first_fault, in_order};
 ghost use Rattle.sap_formula.specs.declared.fault.FormulaFlaw.{FormulaFlaw};
 ghost use Rattle.sap_formula.specs.View.{form};
 ghost use Rattle.sap_formula.specs.Checked.{IsChecked};
 
 use crate::Formula;
 use crate::fault::{FormulaFault, FormulaFlaw};
-use crate::remaking::{How, remade_box};
+use crate::remaking::{How, remade};
 use crate::scope::Scope;
 use crate::search::{Aim, in_form};
 use sap_terms::{Copied, Mem, Name, Signature};
@@ -43,7 +43,7 @@ fn sorted(alloc: Global, f: &Formula) -> Result<Formula, Mem>
     ensures { IfOk result (λ r. form r ≡ with_sorts [] (form f.now)) }
 {
     let outside = Scope::Outside;
-    Ok(Box::into_inner(remade_box(alloc, How::Sorted, &outside, f)?))
+    Ok(Box::into_inner(remade(alloc, How::Sorted, &outside, f)?))
 }
 
 // The first of all five, in the order in which they count.
@@ -76,33 +76,16 @@ fn first_fault(
     ensures { IfOk result (λ o. o ≡ first_fault sig.now reserved flaws.now (form_parts [] (form f.now))) }
 {
     for which in flaws {
-        if let Some(name) = first_name(alloc, sig, reserved, *which, f)? {
-            return Ok(Some((*which, name)));
+        let aim = Aim {
+            sig,
+            reserved,
+            which: *which,
+        };
+        if let Some(name) = in_form(alloc, &aim, &Scope::Outside, f)? {
+            return Ok(Some((*which, name.copy(alloc)?)));
         }
     }
     Ok(None)
-}
-
-// The name of the first part that has the fault.
-fn first_name(
-    alloc: Global,
-    sig: &Signature,
-    reserved: bool,
-    which: FormulaFlaw,
-    f: &Formula,
-) -> Result<Option<Name>, Mem>
-    ensures { IfOk result (λ o. o ≡ first_name sig.now reserved which (form_parts [] (form f.now))) }
-{
-    let aim = Aim {
-        sig,
-        reserved,
-        which,
-    };
-    let outside = Scope::Outside;
-    match in_form(alloc, &aim, &outside, f)? {
-        Some(n) => Ok(Some(n.copy(alloc)?)),
-        None => Ok(None),
-    }
 }
 
 fn fault(which: FormulaFlaw, name: Name) -> FormulaFault

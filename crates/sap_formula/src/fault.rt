@@ -6,7 +6,7 @@ use sap_terms::{Mem, Name};
 
 /// What can be wrong in a formula, in the order in which faults count: the first that stands anywhere is told, at its
 /// first part in reading order.
-#[derive(Clone, Copy, Debug, PartialEq, Eq)]
+#[derive(Clone, Copy)]
 pub enum FormulaFlaw {
     /// A symbol that isn't held or has another arity.
     BadFunction,

@@ -3,7 +3,7 @@ ghost use Rattle.std.specs.Prelude.{◌≡◌, IfOk};
 ghost use Rattle.sap_formula.specs.View.{form};
 
 use crate::Binders;
-use crate::remaking::{How, remade_box};
+use crate::remaking::{How, remade};
 use crate::scope::Scope;
 use sap_terms::{Fact, Mem, Name, Term};
 use std::alloc::Global;
@@ -62,6 +62,6 @@ impl Formula {
         ensures { IfOk result (λ f. form f ≡ form self.now) }
     {
         let outside = Scope::Outside;
-        Ok(Box::into_inner(remade_box(alloc, How::Same, &outside, self)?))
+        Ok(Box::into_inner(remade(alloc, How::Same, &outside, self)?))
     }
 }

@@ -1,11 +1,11 @@
 //! Lemmas: formulas that are said of all traces, or of some one.
-use crate::Formula;
+use crate::{Formula, both};
 use sap_terms::{Copied, Items, Mem, Name, NameList};
 use std::alloc::Global;
 use std::marker::Model;
 
 /// Which traces a lemma speaks of: each, or some one.
-#[derive(Clone, Copy, Debug, PartialEq, Eq)]
+#[derive(Clone, Copy)]
 pub enum Mode {
     AllTraces,
     ExistsTrace,
@@ -36,13 +36,13 @@ impl Model for Lemma {
 
 impl Copied for Lemma {
     fn copy(&self, alloc: Global) -> Result<Lemma, Mem> {
-        let name = self.name.copy(alloc)?;
-        let attributes = self.attributes.copy(alloc)?;
+        let names = both(self.name.copy(alloc), self.attributes.copy(alloc));
+        let (names, formula) = both(names, self.formula.copy(alloc))?;
         Ok(Lemma {
-            name,
-            attributes,
+            name: names.0,
+            attributes: names.1,
             mode: self.mode,
-            formula: self.formula.copy(alloc)?,
+            formula,
         })
     }
 }

@@ -7,7 +7,7 @@ ghost use Rattle.sap_formula.specs.code.Scoped.{binders};
 use crate::scope::{Scope, entered};
 use crate::sorting::{sorted_action, sorted_equal};
 use crate::{Binders, Formula};
-use sap_terms::{Copied, Mem, Name};
+use sap_terms::{Copied, Mem, Name, boxed};
 use std::alloc::Global;
 
 // How a formula is made anew.
@@ -21,7 +21,7 @@ pub(crate) enum How {
 
 // The formula made anew inside these binders.
 #[cycle(remade)]
-pub(crate) fn remade_box(
+pub(crate) fn remade(
     alloc: Global,
     how: How,
     scope: &Scope<'_>,
@@ -29,26 +29,16 @@ pub(crate) fn remade_box(
 ) -> Result<Box<Formula>, Mem>
     ensures { IfOk result (λ r. form r.value ≡ remade how (binders scope.now) (form f.now)) }
 {
-    Ok(Box::new(alloc, remade(alloc, how, scope, f)?)?)
-}
-
-#[cycle(remade)]
-fn remade(alloc: Global, how: How, scope: &Scope<'_>, f: &Formula) -> Result<Formula, Mem>
-    ensures { IfOk result (λ r. form r ≡ remade how (binders scope.now) (form f.now)) }
-{
     match f {
-        Formula::True => Ok(Formula::True),
-        Formula::False => Ok(Formula::False),
+        Formula::True => boxed(alloc, Formula::True),
+        Formula::False => boxed(alloc, Formula::False),
         Formula::Action(h, i) => sorted_action(alloc, scope, h, i),
         Formula::Equal(s, t) => sorted_equal(alloc, scope, s, t),
         Formula::Same(i, j) | Formula::Less(i, j) => timed(alloc, f, i, j),
-        Formula::Not(g) => Ok(Formula::Not(remade_box(alloc, how, scope, g)?)),
+        Formula::Not(g) => boxed(alloc, Formula::Not(remade(alloc, how, scope, g)?)),
         Formula::And(g, h) | Formula::Or(g, h) | Formula::Imp(g, h) | Formula::Iff(g, h) => {
-            let two = both(
-                remade_box(alloc, how, scope, g),
-                remade_box(alloc, how, scope, h),
-            )?;
-            Ok(joined(f, two))
+            let two = both(remade(alloc, how, scope, g), remade(alloc, how, scope, h))?;
+            joined(alloc, f, two)
         }
         Formula::All(bs, g) | Formula::Ex(bs, g) => {
             quantified(alloc, f, bs, below(alloc, how, scope, bs, g)?)
@@ -71,9 +61,9 @@ fn below(
         How::Sorted => {
             let inside = entered(alloc, bs)?;
             let inner = Scope::Inside(&inside, &*scope);
-            remade_box(alloc, how, &inner, f)
+            remade(alloc, how, &inner, f)
         }
-        How::Same => remade_box(alloc, how, scope, f),
+        How::Same => remade(alloc, how, scope, f),
     }
 }
 
@@ -86,14 +76,18 @@ pub fn both<T: Drop, U: Drop>(left: Result<T, Mem>, right: Result<U, Mem>) -> Re
 }
 
 // The connective of this formula between the two.
-fn joined(like: &Formula, two: (Box<Formula>, Box<Formula>)) -> Formula
-    ensures { form result ≡ joined (form like.now) (form two.0.value) (form two.1.value) }
+fn joined(
+    alloc: Global,
+    like: &Formula,
+    two: (Box<Formula>, Box<Formula>),
+) -> Result<Box<Formula>, Mem>
+    ensures { IfOk result (λ r. form r.value ≡ joined (form like.now) (form two.0.value) (form two.1.value)) }
 {
     match like {
-        Formula::And(_, _) => Formula::And(two.0, two.1),
-        Formula::Or(_, _) => Formula::Or(two.0, two.1),
-        Formula::Imp(_, _) => Formula::Imp(two.0, two.1),
-        _ => Formula::Iff(two.0, two.1),
+        Formula::And(_, _) => boxed(alloc, Formula::And(two.0, two.1)),
+        Formula::Or(_, _) => boxed(alloc, Formula::Or(two.0, two.1)),
+        Formula::Imp(_, _) => boxed(alloc, Formula::Imp(two.0, two.1)),
+        _ => boxed(alloc, Formula::Iff(two.0, two.1)),
     }
 }
 
@@ -103,24 +97,23 @@ fn quantified(
     like: &Formula,
     bs: &Binders,
     body: Box<Formula>,
-) -> Result<Formula, Mem>
-    ensures { IfOk result (λ r. form r ≡ quantified (form like.now) bs.now (form body.value)) }
+) -> Result<Box<Formula>, Mem>
+    ensures { IfOk result (λ r. form r.value ≡ quantified (form like.now) bs.now (form body.value)) }
 {
     let bs = bs.copy(alloc)?;
     match like {
-        Formula::All(_, _) => Ok(Formula::All(bs, body)),
-        _ => Ok(Formula::Ex(bs, body)),
+        Formula::All(_, _) => boxed(alloc, Formula::All(bs, body)),
+        _ => boxed(alloc, Formula::Ex(bs, body)),
     }
 }
 
 // Its relation between these times.
-fn timed(alloc: Global, like: &Formula, i: &Name, j: &Name) -> Result<Formula, Mem>
-    ensures { IfOk result (λ r. form r ≡ timed (form like.now) i.now j.now) }
+fn timed(alloc: Global, like: &Formula, i: &Name, j: &Name) -> Result<Box<Formula>, Mem>
+    ensures { IfOk result (λ r. form r.value ≡ timed (form like.now) i.now j.now) }
 {
-    let i = i.copy(alloc)?;
-    let j = j.copy(alloc)?;
+    let two = both(i.copy(alloc), j.copy(alloc))?;
     match like {
-        Formula::Same(_, _) => Ok(Formula::Same(i, j)),
-        _ => Ok(Formula::Less(i, j)),
+        Formula::Same(_, _) => boxed(alloc, Formula::Same(two.0, two.1)),
+        _ => boxed(alloc, Formula::Less(two.0, two.1)),
     }
 }

@@ -1,5 +1,5 @@
 //! Restrictions: formulas that say which traces count.
-use crate::Formula;
+use crate::{Formula, both};
 use sap_terms::{Copied, Items, Mem, Name};
 use std::alloc::Global;
 use std::marker::Model;
@@ -27,11 +27,8 @@ impl Model for Restriction {
 
 impl Copied for Restriction {
     fn copy(&self, alloc: Global) -> Result<Restriction, Mem> {
-        let name = self.name.copy(alloc)?;
-        Ok(Restriction {
-            name,
-            formula: self.formula.copy(alloc)?,
-        })
+        let (name, formula) = both(self.name.copy(alloc), self.formula.copy(alloc))?;
+        Ok(Restriction { name, formula })
     }
 }
 

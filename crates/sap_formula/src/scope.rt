@@ -4,10 +4,10 @@ ghost use Rattle.std.specs.Option.{option_copied};
 ghost use Rattle.sap_formula.specs.code.Scoped.{binders};
 ghost use Rattle.sap_formula.specs.code.Tests.{binds_message, binds_time};
 ghost use Rattle.sap_formula.specs.declared.binder.Binder.{Binder};
-ghost use Rattle.sap_formula.specs.Checked.{binder_name, enter, find_binder};
+ghost use Rattle.sap_formula.specs.Checked.{enter, find_binder};
 
 use crate::{Binder, Binders};
-use sap_terms::{Copied, HasName, Mem, Name, Named, Sort, Var};
+use sap_terms::{Copied, Mem, Name, Named, Sort, Var};
 use std::alloc::Global;
 
 // The quantifiers round a part of a formula, the innermost first. Each has its binders last to first.
@@ -15,13 +15,6 @@ use std::alloc::Global;
 pub(crate) enum Scope<'a> {
     Outside,
     Inside(&'a Named<Binder>, &'a Scope<'a>),
-}
-
-// The name that a binder binds.
-pub(crate) fn binder_name(b: &Binder) -> &Name
-    ensures { result.now ≡ binder_name b.now }
-{
-    b.name()
 }
 
 // The binders of a quantifier, last to first, so that the first of a name is its last binder there.

@@ -11,10 +11,11 @@ ghost use Rattle.sap_terms.specs.View.{tree};
 ghost use Rattle.sap_formula.specs.Checked.{enter, premise};
 
 use crate::guards::guard_names;
-use crate::scope::{Scope, binder_name, binds_message, binds_time, entered};
+use crate::remaking::both;
+use crate::scope::{Scope, binds_message, binds_time, entered};
 use crate::visible::is_hidden;
 use crate::{Binders, Formula, FormulaFlaw};
-use sap_terms::{Fact, Mem, Name, NameSet, Signature, Term, TermList, Var};
+use sap_terms::{Fact, HasName, Mem, Name, NameSet, Signature, Term, TermList, Var};
 use std::alloc::Global;
 
 // What is looked for: a fault under a signature.
@@ -139,7 +140,7 @@ fn first_outside<'a>(names: &NameSet, bs: &'a Binders) -> Option<&'a Name>
     ensures { option_copied result ≡ first_outside names.now bs.now }
 {
     for b in bs.as_slice() {
-        let name = binder_name(b);
+        let name = b.name();
         if !names.contains(name) {
             return Some(name);
         }
@@ -198,10 +199,10 @@ fn in_equal<'a>(aim: &Aim<'_>, scope: &Scope<'_>, s: &'a Term, t: &'a Term) -> O
     }
 }
 
-// The name of the first part of the formula that has the fault. It takes time in proportion to the formula, times the
-// quantifiers round its parts where these count.
+// The name of the first part of the formula that has the fault; the parts behind it are gone over too. It takes time in
+// proportion to the formula, times the quantifiers round its parts where these count.
 #[cycle(in_form)]
-#[tactic(auto, using(crate::proofs::Firsts::first_laws))]
+#[tactic(auto, using(crate::proofs::Firsts::form_laws))]
 pub(crate) fn in_form<'a>(
     alloc: Global,
     aim: &Aim<'_>,
@@ -217,19 +218,23 @@ pub(crate) fn in_form<'a>(
         Formula::Same(i, j) | Formula::Less(i, j) => Ok(in_times(aim, scope, i, j)),
         Formula::Not(g) => in_form(alloc, aim, scope, g),
         Formula::And(g, h) | Formula::Or(g, h) | Formula::Imp(g, h) | Formula::Iff(g, h) => {
-            match in_form(alloc, aim, scope, g)? {
-                Some(n) => Ok(Some(n)),
-                None => in_form(alloc, aim, scope, h),
-            }
+            let two = both(in_form(alloc, aim, scope, g), in_form(alloc, aim, scope, h))?;
+            Ok(two.0.or(two.1))
         }
-        Formula::All(bs, g) => match in_binders_of_all(alloc, aim, g, bs)? {
-            Some(n) => Ok(Some(n)),
-            None => in_body(alloc, aim, scope, bs, g),
-        },
-        Formula::Ex(bs, g) => match in_binders(alloc, aim, g, bs)? {
-            Some(n) => Ok(Some(n)),
-            None => in_body(alloc, aim, scope, bs, g),
-        },
+        Formula::All(bs, g) => {
+            let two = both(
+                in_binders_of_all(alloc, aim, g, bs),
+                in_body(alloc, aim, scope, bs, g),
+            )?;
+            Ok(two.0.or(two.1))
+        }
+        Formula::Ex(bs, g) => {
+            let two = both(
+                in_binders(alloc, aim, g, bs),
+                in_body(alloc, aim, scope, bs, g),
+            )?;
+            Ok(two.0.or(two.1))
+        }
     }
 }
 

@@ -9,9 +9,10 @@ ghost use Rattle.sap_terms.specs.Modulo.{instance_fact};
 ghost use Rattle.sap_terms.specs.View.{tree};
 ghost use Rattle.sap_formula.specs.Checked.{find_binder};
 
+use crate::remaking::both;
 use crate::scope::{Scope, find_binder};
 use crate::{Binder, Formula};
-use sap_terms::{Copied, Fact, Mem, Name, Sort, Term, TermList, Var};
+use sap_terms::{Copied, Fact, Mem, Name, Sort, Term, TermList, Var, boxed};
 use std::alloc::Global;
 
 // The sort that the variable gets.
@@ -24,14 +25,12 @@ fn sort_of(scope: &Scope<'_>, v: &Var) -> Sort
     }
 }
 
-fn sorted_var(alloc: Global, scope: &Scope<'_>, v: &Var) -> Result<Var, Mem>
-    ensures { IfOk result (λ w. w ≡ sorted_as (find_binder (binders scope.now) v.now.name) v.now) }
+fn sorted_var(alloc: Global, scope: &Scope<'_>, v: &Var) -> Result<Term, Mem>
+    ensures { IfOk result (λ r. tree r ≡ by_binder (binders scope.now) v.now) }
 {
     let sort = sort_of(scope, v);
-    Ok(Var {
-        name: v.name.copy(alloc)?,
-        sort,
-    })
+    let name = v.name.copy(alloc)?;
+    Ok(Term::Var(Var { name, sort }))
 }
 
 #[cycle(sorted_term)]
@@ -40,10 +39,12 @@ fn sorted_term(alloc: Global, scope: &Scope<'_>, t: &Term) -> Result<Term, Mem>
     ensures { IfOk result (λ r. tree r ≡ instance (by_binder (binders scope.now)) (tree t.now)) }
 {
     match t {
-        Term::Var(v) => Ok(Term::Var(sorted_var(alloc, scope, v)?)),
-        Term::Public(n) => Ok(Term::Public(n.copy(alloc)?)),
-        Term::Fresh(k) => Ok(Term::Fresh(*k)),
-        Term::App(f, ts) => Ok(Term::App(f.copy(alloc)?, sorted_terms(alloc, scope, ts)?)),
+        Term::Var(v) => sorted_var(alloc, scope, v),
+        Term::App(f, ts) => {
+            let parts = both(f.copy(alloc), sorted_terms(alloc, scope, ts))?;
+            Ok(Term::App(parts.0, parts.1))
+        }
+        _ => t.copy(alloc),
     }
 }
 
@@ -63,15 +64,17 @@ pub(crate) fn sorted_action(
     scope: &Scope<'_>,
     f: &Fact,
     i: &Name,
-) -> Result<Formula, Mem>
-    ensures { IfOk result (λ r. form r ≡ action (instance_fact (by_binder (binders scope.now)) f.now) i.now) }
+) -> Result<Box<Formula>, Mem>
+    ensures { IfOk result (λ r. form r.value ≡ action (instance_fact (by_binder (binders scope.now)) f.now) i.now) }
 {
+    let names = both(f.name.copy(alloc), i.copy(alloc))?;
+    let args = sorted_terms(alloc, scope, &f.args)?;
     let fact = Fact {
-        name: f.name.copy(alloc)?,
+        name: names.0,
         persistent: f.persistent,
-        args: sorted_terms(alloc, scope, &f.args)?,
+        args,
     };
-    Ok(Formula::Action(fact, i.copy(alloc)?))
+    boxed(alloc, Formula::Action(fact, names.1))
 }
 
 pub(crate) fn sorted_equal(
@@ -79,9 +82,9 @@ pub(crate) fn sorted_equal(
     scope: &Scope<'_>,
     s: &Term,
     t: &Term,
-) -> Result<Formula, Mem>
-    ensures { IfOk result (λ r. form r ≡ equal (instance (by_binder (binders scope.now)) (tree s.now)) (instance (by_binder (binders scope.now)) (tree t.now))) }
+) -> Result<Box<Formula>, Mem>
+    ensures { IfOk result (λ r. form r.value ≡ equal (instance (by_binder (binders scope.now)) (tree s.now)) (instance (by_binder (binders scope.now)) (tree t.now))) }
 {
-    let s = sorted_term(alloc, scope, s)?;
-    Ok(Formula::Equal(s, sorted_term(alloc, scope, t)?))
+    let two = both(sorted_term(alloc, scope, s), sorted_term(alloc, scope, t))?;
+    boxed(alloc, Formula::Equal(two.0, two.1))
 }

@@ -1,5 +1,5 @@
 -- Names without parameters are replaced by what they stand for.
-use Rattle.std.proofs.Common.{◌≡◌, ℕ, true, false, List, [], ◌∷◌, ◌++◌, map, refl, sym, ap, ◌∙◌, subst, ⊎_elim, arith}
+use Rattle.std.proofs.Common.{◌≡◌, ℕ, true, false, List, [], ◌∷◌, ◌++◌, map, refl, sym, ap, ◌∙◌, subst, ⊎_elim}
 use Rattle.std.proofs.lemmas.Bool.{cases_Bool, false≢true}
 use Rattle.std.proofs.lemmas.List.Elements.{Contains-append_left, Contains-append_right, Contains-append_cases}
 use Rattle.std.specs.Prelude.{if◌then◌else◌, Contains}
@@ -15,6 +15,7 @@ use Rattle.sap_process.specs.Instance.{action_instance}
 use Rattle.sap_macro.specs.MacroCauses.{Use, uses}
 use Rattle.sap_macro.specs.Order.{AreInOrder, UsesOnly}
 use Rattle.sap_macro.specs.Replaced.{AreWithoutParameters, Stands, nothing_stands, process_of, replaced, with_standing}
+use Rattle.sap_macro.specs.Seen.{seen}
 use Rattle.sap_macro.specs.Written.{Written, nil, call, parallel, replicated, act, test, lookup, Definition}
 use Rattle.sap_macro.specs.Indexed.{defined}
 use Rattle.sap_terms.proofs.PlainLaws.Known.{two_names, in_cases, not_in, out_of}
@@ -68,6 +69,22 @@ module _ (p : Plain) (m : Meaning) (s : Stands) where
   replaced_is (lookup t x a b) h taken =
       λ i. whole.lookup (kept t i) x (replaced_is a (first_said (uses a) (uses b) h) taken i)
       (replaced_is b (second_said (uses a) (uses b) h) (expanded m unchanged same_name (with_uses p a) taken).taken i)
+
+-- without uses a process stays, whatever names mean
+unused_stays : (m : Meaning) (w : Written) (taken : List (List ℕ)) → UsesOnly [] w → (expanded m unchanged same_name w taken).process ≡ seen w
+unused_stays m nil taken h = refl
+unused_stays m (call f ts) taken h = absurd (false≢true h)
+unused_stays m (parallel a b) taken h =
+    λ i. whole.parallel (unused_stays m a taken h.0 i) (unused_stays m b (expanded m unchanged same_name a taken).taken h.1 i)
+unused_stays m (replicated a) taken h = ap whole.replicated (unused_stays m a taken h)
+unused_stays m (act x a) taken h = λ i. whole.act (binding_kept x i) (unused_stays m a taken h i)
+unused_stays m (test t u a b) taken h =
+    λ i. whole.test (kept t i) (kept u i) (unused_stays m a taken h.0 i) (unused_stays m b (expanded m unchanged same_name a taken).taken h.1 i)
+unused_stays m (lookup t x a b) taken h =
+    λ i. whole.lookup (kept t i) x (unused_stays m a taken h.0 i) (unused_stays m b (expanded m unchanged same_name a taken).taken h.1 i)
+
+pub left_stays : (ds : List Definition) (p : Written) (identifiers : List (List ℕ)) → UsesOnly [] (plain ds p) → (expansion ds identifiers p).process ≡ seen (plain ds p)
+left_stays ds p identifiers h = unused_stays (meaning_of (plain_bodies call ds)) (plain ds p) identifiers h
 
 -- each use of a process is one of a known name
 module _ (known : List (List ℕ)) (u : Use) where

@@ -15,6 +15,7 @@ ghost use Rattle.sap_macro.specs.Instances.{instance_by, IsClosed, AreClosedAmon
 ghost use Rattle.sap_macro.specs.NewNames.{IsNewName, candidate, new_name};
 ghost use Rattle.sap_macro.specs.Order.{AreInOrder, UsesOnly, with_parameters};
 ghost use Rattle.sap_macro.specs.Replaced.{AreWithoutParameters, nothing_stands, process_of};
+ghost use Rattle.sap_macro.specs.Seen.{seen};
 ghost use Rattle.sap_macro.specs.UpToNames.{AreSameUpToNames};
 ghost use Rattle.sap_macro.specs.UsesAreInstances.{UsesAreInstances};
 ghost use Rattle.sap_macro.specs.Written.{Written, call, Definition};
@@ -62,10 +63,13 @@ pub fn uses_show_their_instances()
     uses_are_instances();
 }
 
-/// A law: where no definition has parameters, the expansion is the process with each name replaced by what it stands for.
+/// A law: where no definition has parameters, the expansion is the process with each name replaced by what it stands for. Where no use is
+/// left once names without parameters are replaced, it is what is left, whatever names are taken.
 pub fn plain_files_stay()
-    ensures { (ds : List Definition) (p : Written) (identifiers : List (List ℕ)) → AreInOrder [] ds → AreWithoutParameters ds
+    ensures stands { (ds : List Definition) (p : Written) (identifiers : List (List ℕ)) → AreInOrder [] ds → AreWithoutParameters ds
         → (expansion ds identifiers p).process ≡ process_of nothing_stands ds p }
+    ensures left { (ds : List Definition) (p : Written) (identifiers : List (List ℕ)) → UsesOnly [] (plain ds p)
+        → (expansion ds identifiers p).process ≡ seen (plain ds p) }
 {}
 
 /// A law: names without parameters stand for the definitions' bodies, in which such names are replaced themselves. Names with

@@ -82,7 +82,11 @@ leaf_done s t left right p next held e =
 pub leaf_missed : (s t : Tree) (left right : List (Option ℕ)) (p : Places) (held : List Held) → left_marks (matched t s (record { marks = drop p.right right; held = held })) ≡ None → agreed_leaf s t (two_at left right p) held ≡ None
 leaf_missed s t left right p held e = left_none (matched t s (record { marks = drop p.right right; held = held })) (λ r. Some (record { left = drop p.left left; right = r.marks })) e
 
-pub ruleset place_laws = (left_done, left_missed, left_free, right_done, right_missed, right_free, leaf_done, leaf_missed)
+pub ruleset left_laws = (left_done, left_missed, left_free)
+
+pub ruleset right_laws = (right_done, right_missed, right_free)
+
+pub ruleset leaf_laws = (leaf_done, leaf_missed)
 
 -- one more of two lists
 pub each_more : (ss ts : List Tree) (k : ℕ) (a b : Tree) (w : Two) (held : List Held) → slice_get ss k ≡ Some a → slice_get ts k ≡ Some b → agreed_all (trees_of (drop k ss)) (trees_of (drop k ts)) w held ≡ onward (agreed a b w held) (λ r. agreed_all (trees_of (drop (k + 1) ss)) (trees_of (drop (k + 1) ts)) r held)

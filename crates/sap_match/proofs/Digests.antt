@@ -187,7 +187,9 @@ facts_put xs k buckets h i d = sym (i d ∙ ap (λ z. bucket buckets d ++ of_dig
 pub taken_more : {X : Type 0} (xs front : List X) (k : ℕ) (x : X) → slice_get xs k ≡ Some x → front ≡ take k xs → front ++ x ∷ [] ≡ take (k + 1) xs
 taken_more xs front k x h e = ap (λ z. z ++ x ∷ []) e ∙ sym (take_got xs k x h)
 
-pub ruleset moment_laws = (fact_put, facts_put, taken_more)
+pub ruleset bucket_laws = (fact_put, facts_put)
+
+pub ruleset moment_laws = (taken_more)
 
 -- the bucket of an atom's digest is enough
 pub any_in_bucket : {S : Type 0} (buckets : IndexMap ℕ (List (Bor Fact)) S) (d : ℕ) (n : List ℕ) (a : Atom) (held : List Held) (xs ys : List Fact) → AreBuckets xs buckets → IsDigestOf d n a held → ys ≡ bucket buckets d

@@ -60,6 +60,6 @@ all_lengths [] (t ∷ ts) s h = refl
 all_lengths (p ∷ ps) [] s h = refl
 all_lengths (p ∷ ps) (t ∷ ts) s h = lost (matched p t s) (matched_all (trees_of ps) (trees_of ts)) (λ r. all_lengths ps ts r (λ e. h (omega (arith, e))))
 
-pub ruleset fit_laws = (front_same, front_on, all_more, all_end, all_lengths)
+pub ruleset each_laws = (front_same, front_on, all_more, all_end, all_lengths)
 
-pub ruleset guard_laws = (front_same, front_on)
+pub ruleset front_laws = (front_same, front_on)

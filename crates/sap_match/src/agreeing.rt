@@ -53,7 +53,7 @@ pub(crate) fn next_term<'a>(values: &Vec<Value<'a>>, marks: &Marks, at: u64) -> 
 }
 
 // Where the left term is a variable.
-#[tactic(auto, using(crate::proofs::Agreements::place_laws))]
+#[tactic(auto, using(crate::proofs::Agreements::left_laws))]
 fn agree_left<'a>(
     values: &mut Vec<Value<'a>>,
     left: &Marks,
@@ -77,7 +77,7 @@ fn agree_left<'a>(
 }
 
 // Where the right term is a variable, and the left isn't.
-#[tactic(auto, using(crate::proofs::Agreements::place_laws))]
+#[tactic(auto, using(crate::proofs::Agreements::right_laws))]
 fn agree_right<'a>(
     values: &mut Vec<Value<'a>>,
     left: &Marks,
@@ -101,7 +101,7 @@ fn agree_right<'a>(
 }
 
 // Where the left term is a leaf without a variable.
-#[tactic(auto, using(crate::proofs::Agreements::place_laws))]
+#[tactic(auto, using(crate::proofs::Agreements::leaf_laws))]
 fn agree_leaf<'a>(
     values: &mut Vec<Value<'a>>,
     left: &Marks,
@@ -124,7 +124,6 @@ fn agree_leaf<'a>(
 
 // The places up to which the marks are read, where the two terms are one once variables are what their slots hold.
 #[cycle(agree)]
-#[tactic(auto, using(crate::proofs::Agreements::each_laws))]
 pub(crate) fn agree<'a>(
     values: &mut Vec<Value<'a>>,
     left: &Marks,

@@ -42,7 +42,6 @@ fn feed_slot(
 // Feeds the term to the hasher, where variables are what their slots hold; the place of the next mark. None where a
 // variable has no term.
 #[cycle(feed)]
-#[tactic(auto, using(crate::proofs::Digests::feed_laws))]
 fn feed(
     values: &Vec<Value<'_>>,
     marks: &Marks,

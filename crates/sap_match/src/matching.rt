@@ -124,7 +124,7 @@ fn take<'a>(
 
 // Where the pattern fits the term, the place of the next mark; variables that come first fill slots.
 #[cycle(fits)]
-#[tactic(auto, using(crate::proofs::Slots::fit_laws))]
+#[tactic(auto, using(crate::proofs::Slots::front_laws))]
 pub(crate) fn fits<'a>(
     values: &mut Vec<Value<'a>>,
     marks: &Marks,
@@ -157,7 +157,7 @@ pub(crate) fn fits<'a>(
 
 // The same of these, one by one.
 #[cycle(fits)]
-#[tactic(auto, using(crate::proofs::Slots::fit_laws))]
+#[tactic(auto, using(crate::proofs::Slots::each_laws))]
 pub(crate) fn fits_each<'a>(
     values: &mut Vec<Value<'a>>,
     marks: &Marks,
@@ -197,7 +197,7 @@ fn fits_time(values: &mut Vec<Value<'_>>, time: Option<u64>, k: u64) -> Result<b
 }
 
 /// Whether the guard fits the fact and its time; variables that come first fill slots. It recurses as deep as the terms.
-#[tactic(auto, using(crate::proofs::Slots::guard_laws))]
+#[tactic(auto, using(crate::proofs::Slots::front_laws))]
 pub fn meets<'a>(
     values: &mut Vec<Value<'a>>,
     guard: &AtomPlan<'a>,

@@ -102,7 +102,7 @@ fn put<'t>(alloc: Global, x: &'t Fact, buckets: &mut Buckets<'t>) -> Result<(), 
 }
 
 // These facts by their digests.
-#[tactic(auto, using(crate::proofs::Digests::moment_laws))]
+#[tactic(auto, using(crate::proofs::Digests::bucket_laws))]
 fn buckets_of<'t>(alloc: Global, facts: &'t FactList) -> Result<Buckets<'t>, Mem>
     ensures { IfOk result (AreBuckets facts.now) }
 {

@@ -5,3 +5,4 @@ pub mod Noted
 pub mod RunFed
 pub mod RunAnswered
 pub mod CallsTried
+pub mod Rests

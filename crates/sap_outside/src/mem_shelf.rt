@@ -10,10 +10,9 @@ ghost use Rattle.sap_outside.specs.RunPieces.{most_run_bytes};
 ghost use Rattle.sap_outside.specs.Seen.{seen_shelf};
 
 use crate::asked::{Asked, noted};
-use crate::{Shelf, ShelfFault};
+use crate::{Rest, Shelf, ShelfFault};
 use std::alloc::{AllocError, Global};
 use std::collections::BTreeMap;
-use std::mem;
 
 /// A shelf in memory, which tells its files.
 #[derive(Drop)]
@@ -29,12 +28,12 @@ pub struct MemShelf {
     /// How many of them failed; it stops at the greatest u64.
     pub count: u64,
     /// The bytes of the open file that weren't given yet; none where no file is open.
-    pub rest: Vec<u8>,
+    pub rest: Rest,
     /// The name of the open file.
     pub name: Option<String>,
     /// How many bytes a piece has at most; at least one.
     pub piece: u64,
-    ghost shut: { ForNone name (rest.items ≡ []) },
+    ghost shut: { ForNone name (rest ≡ []) },
     ghost some: { 1 ≤ piece },
 }
 
@@ -47,7 +46,7 @@ impl MemShelf {
         ensures files { self.new.files ≡ self.old.files }
         ensures list { self.new.fail_on.items ≡ self.old.fail_on.items }
         ensures name { self.new.name ≡ self.old.name }
-        ensures rest { self.new.rest.items ≡ self.old.rest.items }
+        ensures rest { self.new.rest ≡ self.old.rest }
         ensures count { self.new.count ≡ self.old.count }
         ensures piece { self.new.piece ≡ self.old.piece }
     {
@@ -57,7 +56,7 @@ impl MemShelf {
 
     // Closes the open file.
     fn close(&mut self)
-        ensures shut { (self.new.name ≡ None) × (self.new.rest.items ≡ []) }
+        ensures shut { (self.new.name ≡ None) × (self.new.rest ≡ []) }
         ensures files { self.new.files ≡ self.old.files }
         ensures list { self.new.fail_on.items ≡ self.old.fail_on.items }
         ensures requests { self.new.requests ≡ self.old.requests }
@@ -71,7 +70,7 @@ impl MemShelf {
 
     // Counts a failure, after which no file is open.
     fn fail(&mut self)
-        ensures shut { (self.new.name ≡ None) × (self.new.rest.items ≡ []) }
+        ensures shut { (self.new.name ≡ None) × (self.new.rest ≡ []) }
         ensures files { self.new.files ≡ self.old.files }
         ensures list { self.new.fail_on.items ≡ self.old.fail_on.items }
         ensures requests { self.new.requests ≡ self.old.requests }
@@ -85,10 +84,10 @@ impl MemShelf {
     }
 
     // The next bytes of the open file, which loses them.
-    fn cut(&mut self, most: u64) -> Result<Vec<u8>, ShelfFault>
-        ensures length { IfOk result (λ v. length v.items ≡ min most (min self.old.piece (length self.old.rest.items))) }
-        ensures parts { IfOk result (λ v. self.old.rest.items ≡ v.items ++ self.new.rest.items) }
-        ensures mem { OnErr result (self.new.rest.items ≡ self.old.rest.items) }
+    fn cut(&mut self, alloc: Global, most: u64) -> Result<Vec<u8>, ShelfFault>
+        ensures length { IfOk result (λ v. length v.items ≡ min most (min self.old.piece (length self.old.rest))) }
+        ensures parts { IfOk result (λ v. self.old.rest ≡ v.items ++ self.new.rest) }
+        ensures mem { OnErr result (self.new.rest ≡ self.old.rest) }
         ensures only { IfErr result (λ e. e ≡ ShelfFault.Mem) }
         ensures files { self.new.files ≡ self.old.files }
         ensures list { self.new.fail_on.items ≡ self.old.fail_on.items }
@@ -98,9 +97,7 @@ impl MemShelf {
         ensures count { self.new.count ≡ self.old.count }
         ensures piece { self.new.piece ≡ self.old.piece }
     {
-        let n = most.min(self.piece).min(self.rest.len() as u64) as usize;
-        let left = self.rest.split_off(n)?;
-        Ok(mem::replace(&mut self.rest, left))
+        Ok(self.rest.cut(alloc, most.min(self.piece))?)
     }
 }
 
@@ -144,7 +141,7 @@ fn file_of_call<'a>(
 
 impl Shelf for MemShelf {
     ghost seen = { λ s. seen_shelf (Some (files_of s.files)) (λ _. s.count) (told_of s.requests)
-        (option_map string_bytes s.name) (Some s.rest.items) };
+        (option_map string_bytes s.name) (Some s.rest) };
 
     // It fails exactly where the call is one of `fail_on`, or the name isn't held.
     fn fetch(&mut self, alloc: Global, name: &str, limit: u64) -> Result<Vec<u8>, ShelfFault>
@@ -163,7 +160,7 @@ impl Shelf for MemShelf {
         ensures counted { IsErrOf result ShelfFault.Failed → self.new.count ≡ min (self.old.count + 1) (2 ^ 64 - 1) }
         ensures uncounted { OnOk result (self.new.count ≡ self.old.count) }
         ensures mem { IsErrOf result ShelfFault.Mem → self.new.count ≡ self.old.count }
-        ensures kept { (self.new.name ≡ self.old.name) × (self.new.rest.items ≡ self.old.rest.items) }
+        ensures kept { (self.new.name ≡ self.old.name) × (self.new.rest ≡ self.old.rest) }
         ensures piece { self.new.piece ≡ self.old.piece }
     {
         self.note(Asked::fetch(alloc, name, limit));
@@ -179,7 +176,7 @@ impl Shelf for MemShelf {
     // It fails exactly where the call is one of `fail_on`, or the name isn't held.
     fn begin(&mut self, alloc: Global, name: &str) -> Result<(), ShelfFault>
         ensures opened { OnOk result (option_map string_bytes self.new.name ≡ Some name.now) }
-        ensures told { OnOk result (IsWholeFile (Some (files_of self.old.files)) name.now (Some self.new.rest.items)) }
+        ensures told { OnOk result (IsWholeFile (Some (files_of self.old.files)) name.now (Some self.new.rest)) }
         ensures shut { OnErr result (option_map string_bytes self.new.name ≡ None) }
         ensures same { self.new.files ≡ self.old.files }
         ensures asked { Requested (request.begin name.now ∷ [])
@@ -205,7 +202,7 @@ impl Shelf for MemShelf {
             Some(bytes) => {
                 let (name, rest) = copies(alloc, name, bytes)?;
                 self.name = Some(name);
-                self.rest = rest;
+                self.rest = Rest::of(rest);
                 Ok(())
             }
         }
@@ -213,16 +210,16 @@ impl Shelf for MemShelf {
 
     // It fails exactly where the call is one of `fail_on` and a file is open. It gives `most` bytes or `piece` bytes, whichever is
     // fewer, or all that is left where that is fewer still.
-    fn next(&mut self, _alloc: Global, most: u64) -> Result<Vec<u8>, ShelfFault>
+    fn next(&mut self, alloc: Global, most: u64) -> Result<Vec<u8>, ShelfFault>
         requires { 1 ≤ most }
         ensures most { IfOk result (λ v. length v.items ≤ most) }
         ensures closed { option_map string_bytes self.old.name ≡ None → IfOk result (λ v. v.items ≡ []) }
-        ensures told { IfOk result (λ v. IsNextPart (Some self.old.rest.items) (Some self.new.rest.items) v.items) }
+        ensures told { IfOk result (λ v. IsNextPart (Some self.old.rest) (Some self.new.rest) v.items) }
         ensures opened { OnOk result (option_map string_bytes self.new.name ≡ option_map string_bytes self.old.name) }
         ensures shut { IsErrOf result ShelfFault.Failed → option_map string_bytes self.new.name ≡ None }
         ensures mem { IsErrOf result ShelfFault.Mem
             → (option_map string_bytes self.new.name ≡ option_map string_bytes self.old.name)
-            × (Some self.new.rest.items ≡ Some self.old.rest.items) }
+            × (Some self.new.rest ≡ Some self.old.rest) }
         ensures same { self.new.files ≡ self.old.files }
         ensures asked { Requested (request.next most ∷ [])
             (told_of self.old.requests) (told_of self.new.requests) }
@@ -233,7 +230,7 @@ impl Shelf for MemShelf {
         ensures list { self.new.fail_on.items ≡ self.old.fail_on.items }
         ensures exactly { IsErrOf result ShelfFault.Failed
             ↔ (Contains self.old.fail_on.items self.new.calls × IsSome self.old.name) }
-        ensures length { IfOk result (λ v. length v.items ≡ min most (min self.old.piece (length self.old.rest.items))) }
+        ensures length { IfOk result (λ v. length v.items ≡ min most (min self.old.piece (length self.old.rest))) }
         ensures counted { IsErrOf result ShelfFault.Failed → self.new.count ≡ min (self.old.count + 1) (2 ^ 64 - 1) }
         ensures uncounted { OnOk result (self.new.count ≡ self.old.count) }
         ensures mem_count { IsErrOf result ShelfFault.Mem → self.new.count ≡ self.old.count }
@@ -244,6 +241,6 @@ impl Shelf for MemShelf {
             self.fail();
             return Err(ShelfFault::Failed);
         }
-        self.cut(most)
+        self.cut(alloc, most)
     }
 }

@@ -34,3 +34,4 @@ pub mod FlawsByHand
 pub mod PlacesOrdered
 pub mod RuleTraces
 pub mod Below
+pub mod Unboxed

@@ -56,8 +56,7 @@ pub(crate) fn bind_both(
     ensures { OnOk result (scope.new ≡ with_new scope.old (facts_vars (fs.now ++ hs.now))) }
 {
     bind_facts(alloc, scope, fs)?;
-    bind_facts(alloc, scope, hs)?;
-    Ok(())
+    bind_facts(alloc, scope, hs)
 }
 
 // Those of the three sides of a rule.
@@ -72,6 +71,5 @@ pub(crate) fn bind_rule(
     ensures { OnOk result (scope.new ≡ with_new scope.old (facts_vars (l.now ++ (e.now ++ r.now)))) }
 {
     bind_facts(alloc, scope, l)?;
-    bind_both(alloc, scope, e, r)?;
-    Ok(())
+    bind_both(alloc, scope, e, r)
 }

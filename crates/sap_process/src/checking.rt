@@ -75,6 +75,5 @@ fn flaw_that_counts(
     ensures { IfOk result (λ o. IsCounted sig.now (proc p.now) o) }
 {
     let nothing = Vars::new(alloc);
-    let found = first_flaw(alloc, sig, &nothing, p, flaws)?;
-    Ok(found)
+    first_flaw(alloc, sig, &nothing, p, flaws)
 }

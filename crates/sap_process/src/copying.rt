@@ -3,6 +3,7 @@ ghost use Rattle.std.specs.Prelude.{◌≡◌, IfOk};
 ghost use Rattle.sap_process.specs.Proc.{proc};
 
 use crate::Process;
+use crate::joining::unboxed;
 use crate::substituting::replaced;
 use sap_terms::{Bindings, Mem};
 use std::alloc::Global;
@@ -12,7 +13,7 @@ impl Process {
     pub fn copy(&self, alloc: Global) -> Result<Process, Mem>
         ensures { IfOk result (λ p. proc p ≡ proc self.now) }
     {
-        Ok(Box::into_inner(copied(alloc, self)?))
+        unboxed(copied(alloc, self))
     }
 }
 

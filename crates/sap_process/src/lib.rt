@@ -8,6 +8,7 @@ mod copying;
 mod flaw;
 mod found;
 mod heads;
+mod joining;
 mod laws;
 mod met;
 mod naming;

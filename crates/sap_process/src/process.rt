@@ -51,23 +51,46 @@ impl Drop for Process {
     fn drop(mut self) {
         loop {
             match self {
-                Process::Par(first, _second) => self = Box::into_inner(first),
-                Process::If(_left, _right, first, _second) => self = Box::into_inner(first),
-                Process::Lookup(_key, _var, first, _second) => self = Box::into_inner(first),
-                Process::Rep(next) => self = Box::into_inner(next),
-                Process::New(_var, next) => self = Box::into_inner(next),
-                Process::Event(_fact, next) => self = Box::into_inner(next),
-                Process::Out(_term, next)
-                | Process::In(_term, next)
-                | Process::Delete(_term, next) => { self = Box::into_inner(next) }
-                Process::Lock(_term, _label, next) | Process::Unlock(_term, _label, next) => {
-                    self = Box::into_inner(next)
-                }
-                Process::Send(_left, _right, next)
-                | Process::Recv(_left, _right, next)
-                | Process::Insert(_left, _right, next) => self = Box::into_inner(next),
-                Process::Embedded(_taken, _shown, _added, next) => self = Box::into_inner(next),
                 Process::Nil => return,
+                Process::Par(first, second) => {
+                    drop(second);
+                    self = Box::into_inner(first);
+                }
+                Process::If(left, right, first, second) => {
+                    drop((left, right, second));
+                    self = Box::into_inner(first);
+                }
+                Process::Lookup(key, var, first, second) => {
+                    drop((key, var, second));
+                    self = Box::into_inner(first);
+                }
+                Process::Rep(next) => self = Box::into_inner(next),
+                Process::New(var, next) => {
+                    drop(var);
+                    self = Box::into_inner(next);
+                }
+                Process::Event(fact, next) => {
+                    drop(fact);
+                    self = Box::into_inner(next);
+                }
+                Process::Out(term, next)
+                | Process::In(term, next)
+                | Process::Delete(term, next)
+                | Process::Lock(term, _, next)
+                | Process::Unlock(term, _, next) => {
+                    drop(term);
+                    self = Box::into_inner(next);
+                }
+                Process::Send(left, right, next)
+                | Process::Recv(left, right, next)
+                | Process::Insert(left, right, next) => {
+                    drop((left, right));
+                    self = Box::into_inner(next);
+                }
+                Process::Embedded(taken, shown, added, next) => {
+                    drop((taken, shown, added));
+                    self = Box::into_inner(next);
+                }
             }
         }
     }

@@ -10,6 +10,7 @@ ghost use Rattle.sap_process.specs.code.Headed.{headed, forked};
 ghost use Rattle.sap_process.specs.Proc.{proc, nil, parallel, replicated, act, test, lookup};
 
 use crate::Process;
+use crate::joining::both;
 use sap_terms::{Copied, Fact, FactList, Mem, Term, TermList, Var, boxed};
 use std::alloc::Global;
 
@@ -56,7 +57,10 @@ pub fn replaced_term<R: Replacing>(alloc: Global, r: &R, t: &Term) -> Result<Ter
         Term::Var(x) => r.at(alloc, x),
         Term::Public(n) => Ok(Term::Public(n.copy(alloc)?)),
         Term::Fresh(k) => Ok(Term::Fresh(*k)),
-        Term::App(f, ts) => Ok(Term::App(f.copy(alloc)?, replaced_terms(alloc, r, ts)?)),
+        Term::App(f, ts) => {
+            let (f, ts) = both(f.copy(alloc), replaced_terms(alloc, r, ts))?;
+            Ok(Term::App(f, ts))
+        }
     }
 }
 
@@ -68,7 +72,10 @@ pub fn replaced_terms<R: Replacing>(alloc: Global, r: &R, ts: &TermList) -> Resu
 {
     let mut made = TermList::with_room(alloc, ts.len())?;
     for k in 0..ts.len() {
-        made.push(replaced_term(alloc, r, ts.at(k))?)?;
+        match replaced_term(alloc, r, ts.at(k)) {
+            Ok(t) => made.push(t)?,
+            Err(e) => return Err(e),
+        }
     }
     Ok(made)
 }
@@ -83,16 +90,13 @@ fn both_replaced<R: Replacing>(
     ensures { IfOk result (λ b. (tree b.0 ≡ instance (R.choice r.now) (tree t.now))
         × (tree b.1 ≡ instance (R.choice r.now) (tree u.now))) }
 {
-    let first = replaced_term(alloc, r, t)?;
-    let second = replaced_term(alloc, r, u)?;
-    Ok((first, second))
+    both(replaced_term(alloc, r, t), replaced_term(alloc, r, u))
 }
 
 fn replaced_fact<R: Replacing>(alloc: Global, r: &R, f: &Fact) -> Result<Fact, Mem>
     ensures { IfOk result (λ h. h ≡ instance_fact (R.choice r.now) f.now) }
 {
-    let args = replaced_terms(alloc, r, &f.args)?;
-    let name = f.name.copy(alloc)?;
+    let (name, args) = both(f.name.copy(alloc), replaced_terms(alloc, r, &f.args))?;
     let persistent = f.persistent;
     Ok(Fact {
         name,
@@ -308,8 +312,11 @@ pub fn embedding<R: Replacing>(
         (instance_facts (R.choice r.now) right.now))
         (proc p.value)) }
 {
-    let left = replaced_facts(alloc, r, left)?;
-    let shown = replaced_facts(alloc, r, shown)?;
-    let right = replaced_facts(alloc, r, right)?;
+    let left = replaced_facts(alloc, r, left);
+    let made = both(
+        replaced_facts(alloc, r, shown),
+        replaced_facts(alloc, r, right),
+    );
+    let (left, (shown, right)) = both(left, made)?;
     boxed(alloc, Process::Embedded(left, shown, right, p))
 }

@@ -28,8 +28,7 @@ pub fn first_scope_flaw(
 {
     let sig = Signature::new(alloc)?;
     let flaws = [Flaw::Unbound, Flaw::Rebound, Flaw::SortClash];
-    let found = first_flaw(alloc, &sig, scope, p, &flaws)?;
-    Ok(found)
+    first_flaw(alloc, &sig, scope, p, &flaws)
 }
 
 /// A law: whatever is in scope at its root, no place of a process has one of the three flaws, or one of them counts.

@@ -8,6 +8,7 @@ ghost use Rattle.sap_process.specs.Proc.{proc, lookup};
 ghost use Rattle.sap_process.specs.Sites.{fresh_var, message_var};
 ghost use Rattle.sap_process.specs.Sorted.{by_binder, with_sorts};
 
+use crate::joining::both;
 use crate::naming::{bind, with_sort};
 use crate::replacing::{Replacing, ended, looking_up, over, over_both};
 use crate::scope::Scope;
@@ -62,9 +63,9 @@ fn sorted_over(
     let before = scope.len();
     bind(alloc, scope, p)?;
     let below = sorted(alloc, scope, q)?;
-    let made = over(alloc, &*scope, p, below)?;
+    let made = over(alloc, &*scope, p, below);
     scope.cut(before);
-    Ok(made)
+    made
 }
 
 // A head that two processes follow and that binds nothing, over these.
@@ -80,8 +81,7 @@ fn sorted_both(
         (with_sorts scope.old (proc q.now)) (with_sorts scope.old (proc r.now))) }
     ensures same { OnOk result (scope.new ≡ scope.old) }
 {
-    let first = sorted(alloc, scope, q)?;
-    let second = sorted(alloc, scope, r)?;
+    let (first, second) = both(sorted(alloc, scope, q), sorted(alloc, scope, r))?;
     over_both(alloc, &*scope, p, first, second)
 }
 
@@ -98,16 +98,9 @@ fn sorted_lookup(
         ≡ with_sorts scope.old (lookup (tree t.now) x.now (proc p.now) (proc q.now))) }
     ensures same { OnOk result (scope.new ≡ scope.old) }
 {
-    let first = sorted_with(alloc, scope, x, p)?;
-    let second = sorted(alloc, scope, q)?;
-    looking_up(
-        alloc,
-        &*scope,
-        t,
-        with_sort(alloc, x, Sort::Msg)?,
-        first,
-        second,
-    )
+    let below = both(sorted_with(alloc, scope, x, p), sorted(alloc, scope, q));
+    let (x, (first, second)) = both(with_sort(alloc, x, Sort::Msg), below)?;
+    looking_up(alloc, &*scope, t, x, first, second)
 }
 
 // The first branch of `lookup`, with its binder in scope.
@@ -119,9 +112,9 @@ fn sorted_with(alloc: Global, scope: &mut Scope, x: &Var, p: &Process) -> Result
 {
     let before = scope.len();
     scope.push(with_sort(alloc, x, Sort::Msg)?)?;
-    let made = sorted(alloc, scope, p)?;
+    let made = sorted(alloc, scope, p);
     scope.cut(before);
-    Ok(made)
+    made
 }
 
 // The variable with the sort of its binder.

@@ -6,6 +6,7 @@ ghost use Rattle.sap_process.specs.code.Headed.{headed, forked};
 ghost use Rattle.sap_process.specs.Instance.{process_instance, without};
 ghost use Rattle.sap_process.specs.Proc.{proc, lookup};
 
+use crate::joining::{both, push_copy, unboxed};
 use crate::replacing::{Replacing, ended, looking_up, over, over_both};
 use crate::{Children, Process};
 use sap_terms::{Bindings, Copied, Mem, Term, Var, subst};
@@ -20,7 +21,7 @@ use std::alloc::Global;
 pub fn substitute(alloc: Global, p: &Process, b: &Bindings) -> Result<Process, Mem>
     ensures { IfOk result (λ q. proc q ≡ process_instance (bound_to b.now) (proc p.now)) }
 {
-    Ok(Box::into_inner(replaced(alloc, p, b)?))
+    unboxed(replaced(alloc, p, b))
 }
 
 impl Replacing for Bindings {
@@ -30,7 +31,9 @@ impl Replacing for Bindings {
 
     fn at(&self, alloc: Global, x: &Var) -> Result<Term, Mem> {
         let variable = Term::Var(x.copy(alloc)?);
-        subst(alloc, &variable, self)
+        let made = subst(alloc, &variable, self);
+        drop(variable);
+        made
     }
 
     fn bound(&self, alloc: Global, x: &Var) -> Result<Var, Mem> {
@@ -92,8 +95,7 @@ fn replaced_both(
     ensures { IfOk result (λ made. proc made.value ≡ forked (bound_to b.now) (proc p.now)
         (process_instance (bound_to b.now) (proc q.now)) (process_instance (bound_to b.now) (proc r.now))) }
 {
-    let first = replaced(alloc, q, b)?;
-    let second = replaced(alloc, r, b)?;
+    let (first, second) = both(replaced(alloc, q, b), replaced(alloc, r, b))?;
     over_both(alloc, b, p, first, second)
 }
 
@@ -110,9 +112,9 @@ fn replaced_lookup(
     ensures { IfOk result (λ made. proc made.value
         ≡ process_instance (bound_to b.now) (lookup (tree t.now) x.now (proc p.now) (proc q.now))) }
 {
-    let first = replaced_below(alloc, p, x, b)?;
-    let second = replaced(alloc, q, b)?;
-    looking_up(alloc, b, t, x.copy(alloc)?, first, second)
+    let below = both(replaced_below(alloc, p, x, b), replaced(alloc, q, b));
+    let (x, (first, second)) = both(x.copy(alloc), below)?;
+    looking_up(alloc, b, t, x, first, second)
 }
 
 // What stands below the binder of x.
@@ -146,7 +148,7 @@ fn hiding(alloc: Global, b: &Bindings, x: &Var) -> Result<Bindings, Mem>
     let mut rest = Bindings::new(alloc);
     for e in b.as_slice() {
         if !x.name.same(&e.var.name) {
-            rest.push(e.copy(alloc)?)?;
+            push_copy(alloc, &mut rest, e)?;
         }
     }
     Ok(rest)

@@ -73,9 +73,9 @@ fn search(
 {
     let above = walk.scope.len();
     meet(alloc, sig, walk, locks, p)?;
-    search_below(alloc, sig, walk, locks, p)?;
+    let found = search_below(alloc, sig, walk, locks, p);
     walk.scope.cut(above);
-    Ok(())
+    found
 }
 
 // Meets the places below this one, where what its head binds is in scope.
@@ -116,8 +116,7 @@ fn search_both(
         ++ sites_from (walk.old.trail ++ 2 ∷ []) walk.old.scope locks (proc r.now))) }
 {
     search_child(alloc, sig, walk, 1, locks, q)?;
-    search_child(alloc, sig, walk, 2, locks, r)?;
-    Ok(())
+    search_child(alloc, sig, walk, 2, locks, r)
 }
 
 // Meets the places of the two branches of `lookup`, the first with its binder.
@@ -136,8 +135,7 @@ fn search_branches(
         ++ sites_from (walk.old.trail ++ 2 ∷ []) walk.old.scope locks (proc r.now))) }
 {
     search_with(alloc, sig, walk, x, locks, q)?;
-    search_child(alloc, sig, walk, 2, locks, r)?;
-    Ok(())
+    search_child(alloc, sig, walk, 2, locks, r)
 }
 
 // Meets the places of the only child, below the locks that the head of its parent sets.
@@ -173,9 +171,9 @@ fn search_with(
 {
     let outside = walk.scope.len();
     walk.scope.push(with_sort(alloc, x, Sort::Msg)?)?;
-    search_child(alloc, sig, walk, 1, locks, q)?;
+    let found = search_child(alloc, sig, walk, 1, locks, q);
     walk.scope.cut(outside);
-    Ok(())
+    found
 }
 
 // Meets the places of the child of this digit.
@@ -193,9 +191,9 @@ fn search_child(
         (sites_from (walk.old.trail ++ digit ∷ []) walk.old.scope locks (proc q.now))) }
 {
     walk.trail.push(digit)?;
-    search(alloc, sig, walk, locks, q)?;
+    let found = search(alloc, sig, walk, locks, q);
     walk.trail.pop();
-    Ok(())
+    found
 }
 
 // Meets the place itself, and leaves in scope what its head binds.

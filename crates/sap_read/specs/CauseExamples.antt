@@ -297,3 +297,14 @@ other_processes =
     ∷ (with_n (giving_x ∷ about (call p_name (a ∷ [])) ∷ []), whole.act (out (variable x)) whole.nil)
     ∷ (with_n (giving_n ∷ about (call q_name (a ∷ [])) ∷ []), gives_new (codes "n"))
     ∷ (with_n_1 (giving_n ∷ about (call q_name (a ∷ [])) ∷ []), gives_new (codes "n_1")) ∷ []
+
+-- let P = 0, let Q = P, process: ! Q
+abbrev pub plain_file : List Standing
+plain_file = file (let_be p_name nil ∷ let_be q_name (call p_name []) ∷ about (replicated (call q_name [])) ∷ [])
+
+-- a parameter; an argument in the process, and in a definition
+abbrev pub files_not_plain : List (List Standing)
+files_not_plain =
+    file (let_use p_name (codes "x" ∷ []) nil ∷ about nil ∷ [])
+    ∷ file (let_be p_name nil ∷ about (parallel nil (call p_name (a ∷ []))) ∷ [])
+    ∷ file (let_be p_name nil ∷ let_be q_name (call p_name (a ∷ [])) ∷ about nil ∷ []) ∷ []

@@ -5,12 +5,14 @@ ghost use Rattle.sap_locks.specs.Annotation.{without};
 ghost use Rattle.sap_process.specs.declared.flaw.Flaw.TheVariants.{Unbound};
 ghost use Rattle.sap_terms.specs.Variables.{is_known};
 ghost use Rattle.sap_text.specs.declared.fault.Lex.TheVariants.{OpenQuote};
-ghost use Rattle.sap_read.specs.CauseExamples.{AreNoProcesses, AreProcesses, AreRefused, AreUnexpanded, AreUnrefused, counting_first, file_processes, near_files, other_processes, unexpanded_first, with_clash, with_other_count, with_parameter_twice, with_repeated, with_too_deep, with_too_many, with_two, with_unknown, without_process};
+ghost use Rattle.sap_read.specs.CauseExamples.{AreNoProcesses, AreProcesses, AreRefused, AreUnexpanded, AreUnrefused, counting_first, file_processes, files_not_plain, near_files, other_processes, plain_file, unexpanded_first, with_clash, with_other_count, with_parameter_twice, with_repeated, with_too_deep, with_too_many, with_two, with_unknown, without_process};
 ghost use Rattle.sap_read.specs.Causes.{lock_fault};
 ghost use Rattle.sap_read.specs.FileExamples.{empty_file, endless_file, headless_file, quoting_file, timeless_file, told_whole, unbound_file, unlocking_file, whole_file};
 ghost use Rattle.sap_read.specs.Files.{IsRead};
 ghost use Rattle.sap_read.specs.HeldVariables.{HoldsFileVariables};
 ghost use Rattle.sap_read.specs.Identifiers.{identifiers_of};
+ghost use Rattle.sap_read.specs.Item.{Standing, bodies};
+ghost use Rattle.sap_read.specs.PlainFiles.{ArePlain};
 ghost use Rattle.sap_read.specs.VariableExamples.{file_identifiers, file_words, names_without, other_names, small_bodies, variable_names};
 ghost use Rattle.sap_read.specs.declared.fault.ReadFault.TheVariants.{Formula, Header, Ill, Lex as LexFault, NoProcess, Syntax};
 
@@ -37,10 +39,13 @@ pub fn causes_by_hand()
     ensures order_of_uses { AreUnexpanded unexpanded_first }
 {}
 
-/// A law: the processes of small files, with uses replaced by what they mean, and processes that are none of theirs.
+/// A law: the processes of small files, with uses replaced by what they mean, and processes that are none of theirs; a file without
+/// parameters and arguments, and three that have one.
 pub fn file_processes_by_hand()
     ensures are { AreProcesses file_processes }
     ensures are_not { AreNoProcesses other_processes }
+    ensures plain { ArePlain (bodies plain_file) }
+    ensures not_plain { All (λ (f : List Standing). ¬ ArePlain (bodies f)) files_not_plain }
 {}
 
 /// A law: the identifiers of a small file, and what is none of them. Its variables' names hold those of its variables, and without

@@ -1,5 +1,5 @@
 //! Laws of files, as contracts of functions that do nothing but call those below.
-ghost use Rattle.std.specs.Prelude.{◌≡◌, ◌≤◌, ◌^◌, ℕ, List, None, Some, Result, Ok, Err, length};
+ghost use Rattle.std.specs.Prelude.{◌≡◌, ◌⊎◌, ◌≤◌, ◌^◌, ℕ, List, None, Some, Result, Ok, Err, length};
 ghost use Rattle.sap_terms.specs.declared.fact.Fact.{Fact};
 ghost use Rattle.sap_terms.specs.Tree.{Tree, level_count};
 ghost use Rattle.sap_text.specs.declared.token.Token.{Token};
@@ -8,10 +8,11 @@ ghost use Rattle.sap_grammar.specs.Words.{Word, words_of};
 ghost use Rattle.sap_grammar.specs.TermGrammar.{IsTerm};
 ghost use Rattle.sap_grammar.specs.FactGrammar.{IsFact, fact_levels};
 ghost use Rattle.sap_read.specs.code.ProcessLaws.{ProcessLaws};
+ghost use Rattle.sap_macro.specs.Replaced as replaced;
 ghost use Rattle.sap_macro.specs.UpToNames.{AreSameUpToNames};
 ghost use Rattle.sap_macro.specs.Written.{Written};
 ghost use Rattle.sap_read.specs.Causes.{cause_of};
-ghost use Rattle.sap_read.specs.FileProcess.{process_of, IsExpanded};
+ghost use Rattle.sap_read.specs.FileProcess.{definitions_of, main_of, process_of, IsExpanded};
 ghost use Rattle.sap_process.specs.Proc.{Proc};
 ghost use Rattle.sap_draft.specs.ProcessGrammar.{IsPar};
 ghost use Rattle.sap_grammar.specs.Cut.{Placed, IsCut};
@@ -20,7 +21,12 @@ ghost use Rattle.sap_read.specs.HeldVariables.{AreClosedBodies, HasClosedUses, H
 ghost use Rattle.sap_read.specs.Identifiers.{identifiers_of};
 ghost use Rattle.sap_read.specs.Item.{Body, Standing, bodies, signature_of};
 ghost use Rattle.sap_read.specs.Files.{FileContent, IsParted, IsRead, IsRunnable};
+ghost use Rattle.sap_read.specs.PlainFiles.{ArePlain};
 ghost use Rattle.sap_read.specs.Printable.{IsPrintableFile};
+ghost use Rattle.sap_uses.specs.FaultCauses.{Holds};
+ghost use Rattle.sap_uses.specs.declared.fault.MacroFault.{MacroFault};
+ghost use Rattle.sap_uses.specs.declared.fault.MacroFault.TheVariants.{TooDeep, TooMany};
+ghost use Rattle.sap_process.specs.Flaws.{IsWellFormed};
 ghost use Rattle.sap_read.specs.OwnNames.{IsNamedApart};
 ghost use Rattle.sap_terms.specs.declared.limits.TheConstants.{MOST_FILE_NAME_BYTES};
 ghost use Rattle.sap_read.specs.declared.limits.TheConstants.{MOST_NEW_NAME_BYTES};
@@ -34,7 +40,10 @@ use sap_draft::{one_process, processes_are_printable, same_processes, some_proce
 use sap_formula::faultless_formulas_are_checked;
 use sap_grammar::{item_laws, same_grammar, words_of_bytes};
 use sap_locks::{annotations_are_ready, annotations_of_processes};
-use sap_macro::{expansions_are_one, new_names_are_least, new_names_are_short, sizes_are_one};
+use sap_macro::{
+    expansions_are_one, new_names_are_least, new_names_are_short, plain_files_stay,
+    plain_uses_have_parameters, sizes_are_one,
+};
 use sap_process::{one_flaw, some_flaw, sorting_keeps};
 use sap_statements::{
     faultless_formulas_keep_signs, formulas_are_printable, one_faulty_statement, sorts_are_kept,
@@ -42,7 +51,9 @@ use sap_statements::{
 };
 use sap_terms::builtins_stay_held;
 use sap_text::{one_answer, some_answer};
-use sap_uses::{accepted_definitions_are_closed, one_macro_cause, some_macro_cause};
+use sap_uses::{
+    accepted_definitions_are_closed, one_macro_cause, some_macro_cause, unflawed_bodies_are_closed,
+};
 
 /// What the laws of processes say, as the proofs on files need it.
 pub(crate) fn process_laws()
@@ -166,6 +177,24 @@ pub fn used_definitions_are_closed()
         → IsExpanded g names (bodies is) p → HasClosedUses (bodies is) }
 {
     accepted_definitions_are_closed();
+}
+
+/// A law: of a file without parameters and arguments, whose items nothing refuses, no use is why it is refused, but that the process
+/// has too many places or levels; and its process is the one that is written, each name replaced by what it stands for. Where that is
+/// well-formed, it and the definitions are closed, so that `file_processes_are_one` speaks of the file.
+pub fn plain_files_need_no_instances()
+    ensures causes { (g : Sig) (is : List Standing) (p : Written) (e : MacroFault) → cause_of is ≡ None → ArePlain (bodies is)
+        → main_of (bodies is) ≡ Some p → Holds g (definitions_of (bodies is)) p e → (e ≡ TooMany) ⊎ (e ≡ TooDeep) }
+    ensures process { (names : List (List ℕ)) (is : List Standing) (main : Written) → cause_of is ≡ None → ArePlain (bodies is)
+        → main_of (bodies is) ≡ Some main
+        → process_of names (bodies is) ≡ Some (replaced.process_of replaced.nothing_stands (definitions_of (bodies is)) main) }
+    ensures closed { (g : Sig) (names : List (List ℕ)) (is : List Standing) (p : Proc) → cause_of is ≡ None → ArePlain (bodies is)
+        → IsExpanded g names (bodies is) p → IsWellFormed g p → AreClosedBodies (bodies is) }
+{
+    plain_files_stay();
+    plain_uses_have_parameters();
+    unflawed_bodies_are_closed();
+    used_definitions_are_closed();
 }
 
 /// A law: the process of a file is one up to names, whatever names are taken, if they hold those of its variables; a file's

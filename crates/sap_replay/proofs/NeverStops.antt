@@ -6,7 +6,7 @@ use Rattle.sap_locks.specs.Annotation.{IsAnnotation}
 use Rattle.sap_process.specs.Proc.{Proc}
 use Rattle.sap_process.specs.Ready.{IsReady}
 use Rattle.sap_read.specs.Files.{FileContent, IsRunnable}
-use Rattle.sap_refusals.specs.declared.refusal.Refusal.{Refusal}
+use Rattle.sap_answer.specs.declared.refusal.Refusal.{Refusal}
 use Rattle.sap_run_texts.specs.declared.run.Run.{Run}
 use Rattle.sap_run_texts.specs.declared.run.Run.TheVariants as run
 use Rattle.sap_runs.specs.declared.process_step.PStep.{PStep}

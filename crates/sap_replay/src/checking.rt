@@ -4,7 +4,7 @@ ghost use Rattle.std.specs.Prelude.{◌≡◌, ℕ, List, Ok, IfOk, IfErr, IsErr
 ghost use Rattle.sap_run_texts.specs.declared.run.Kinds.TheVariants as kinds;
 ghost use Rattle.sap_run_texts.specs.declared.run.Run.{Run as AnyRun};
 ghost use Rattle.sap_run_texts.specs.declared.run.Run.TheVariants as runs;
-ghost use Rattle.sap_refusals.specs.declared.refusal.Refusal.TheVariants as refusals;
+ghost use Rattle.sap_answer.specs.declared.refusal.Refusal.TheVariants as refusals;
 ghost use Rattle.sap_rule.specs.RuleSteps.{empty_state};
 ghost use Rattle.sap_replay.specs.Replays.{IsCheckedText, IsCheckable};
 ghost use Rattle.sap_outside.specs.RunPieces.{IsRunAnswer};

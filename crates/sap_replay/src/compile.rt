@@ -4,7 +4,7 @@ ghost use Rattle.std.specs.Prelude.{◌≡◌, ℕ, List, IfOk, IsErrOf};
 ghost use Rattle.sap_read.specs.Files.{IsRunnable, told_by};
 ghost use Rattle.sap_rule.specs.declared.theory.Theory.{Theory as TheoryOf};
 ghost use Rattle.sap_theory.specs.TheoryText.{theory_text};
-ghost use Rattle.sap_refusals.specs.declared.refusal.Refusal.TheVariants as refusals;
+ghost use Rattle.sap_answer.specs.declared.refusal.Refusal.TheVariants as refusals;
 ghost use Rattle.sap_replay.specs.AcceptedFile.{IsRefusal, IsCompiledTheory, IsTheoryOf};
 
 use crate::reading::accepted_file;

@@ -3,7 +3,7 @@
 ghost use Rattle.std.specs.Prelude.{◌≤◌, ℕ, List, length, All, IfOk, IsErrOf};
 ghost use Rattle.sap_outside.specs.RunPieces.{most_run_bytes};
 ghost use Rattle.sap_read.specs.Files.{IsRunnable, told_by};
-ghost use Rattle.sap_refusals.specs.declared.refusal.Refusal.TheVariants as refusals;
+ghost use Rattle.sap_answer.specs.declared.refusal.Refusal.TheVariants as refusals;
 ghost use Rattle.sap_runs.specs.Short.{IsShortStep};
 ghost use Rattle.sap_replay.specs.ShortRuns.{IsShortRefusedWith, IsFilledOf, IsTextFilling};
 ghost use Rattle.sap_replay.specs.code.Filled.{IsFillLine, IsFirstRefusedWith};

@@ -4,7 +4,7 @@ ghost use Rattle.std.specs.Prelude.{◌≡◌, ◌≤◌, ℕ, List, length, IfO
 ghost use Rattle.sap_run_texts.specs.declared.run.Kinds.TheVariants as kinds;
 ghost use Rattle.sap_json.specs.Written.{json_text};
 ghost use Rattle.sap_outside.specs.RunPieces.{most_run_bytes, IsRunAnswer};
-ghost use Rattle.sap_refusals.specs.declared.refusal.Refusal.TheVariants as refusals;
+ghost use Rattle.sap_answer.specs.declared.refusal.Refusal.TheVariants as refusals;
 ghost use Rattle.sap_replay.specs.JsonRuns.{IsJsonOf, IsJsonRefusedWith, IsRunOfJson, run_text};
 ghost use Rattle.sap_replay.specs.RunRefusals.{IsNeverIllegal, IsLineOf, IsRunRefusal};
 

@@ -2,7 +2,7 @@
 
 ghost use Rattle.std.specs.Prelude.{◌≤◌, ℕ, List, length, IfOk, IsErrOf};
 ghost use Rattle.sap_read.specs.Files.{told_by};
-ghost use Rattle.sap_refusals.specs.declared.refusal.Refusal.TheVariants as refusals;
+ghost use Rattle.sap_answer.specs.declared.refusal.Refusal.TheVariants as refusals;
 ghost use Rattle.sap_replay.specs.AcceptedFile.{most_bytes, IsAcceptedFile, IsRefusal};
 
 use sap_read::{File, read_file_boxed};

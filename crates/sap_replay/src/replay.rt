@@ -5,7 +5,7 @@ ghost use Rattle.sap_back.specs.Converted.{IsConvertedToProcess};
 ghost use Rattle.sap_read.specs.Files.{IsRunnable, told_by};
 ghost use Rattle.sap_run_texts.specs.declared.run.Run.{Run as AnyRun};
 ghost use Rattle.sap_run_texts.specs.declared.run.Run.TheVariants as runs;
-ghost use Rattle.sap_refusals.specs.declared.refusal.Refusal.TheVariants as refusals;
+ghost use Rattle.sap_answer.specs.declared.refusal.Refusal.TheVariants as refusals;
 ghost use Rattle.sap_replay.specs.Tasks.{kinds_of, Writes};
 ghost use Rattle.sap_replay.specs.Replays.{IsConvertedText, IsJudgedText, IsSeen};
 ghost use Rattle.sap_outside.specs.RunPieces.{IsRunAnswer};

@@ -2,7 +2,7 @@
 
 ghost use Rattle.std.specs.Prelude.{ℕ, List, IfOk, IsErrOf};
 ghost use Rattle.sap_read.specs.Files.{IsRunnable, told_by};
-ghost use Rattle.sap_refusals.specs.declared.refusal.Refusal.TheVariants as refusals;
+ghost use Rattle.sap_answer.specs.declared.refusal.Refusal.TheVariants as refusals;
 ghost use Rattle.sap_run_texts.specs.declared.run.Run.TheVariants as runs;
 ghost use Rattle.sap_runs.specs.declared.process_step.PStep.{PStep};
 ghost use Rattle.sap_teller.specs.Telling.{IsToldAs};

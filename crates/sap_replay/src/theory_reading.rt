@@ -1,7 +1,7 @@
 //! Theories that are read, or refused with the line that says why.
 
 ghost use Rattle.std.specs.Prelude.{◌≤◌, ℕ, List, length, IfOk, IsErrOf};
-ghost use Rattle.sap_refusals.specs.declared.refusal.Refusal.TheVariants as refusals;
+ghost use Rattle.sap_answer.specs.declared.refusal.Refusal.TheVariants as refusals;
 ghost use Rattle.sap_replay.specs.AcceptedTheory.{most_theory_bytes, IsAcceptedTheory};
 ghost use Rattle.sap_replay.specs.AcceptedTheory.{IsTheoryRefusal};
 

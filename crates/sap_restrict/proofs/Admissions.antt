@@ -2,7 +2,7 @@
 use Rattle.std.proofs.Common.{◌≡◌, ℕ, true, false, refl, sym, subst, ◌∙◌}
 use Rattle.sap_restrict.proofs.Meaning.{meaning_law}
 use Rattle.sap_restrict.specs.Laws.{AdmittedLaw}
-use Rattle.sap_restrict.specs.ReservedFacts.{delete_fact, eq_fact, event_fact, init_fact, input_fact, insert_fact, is_in_fact, is_not_set_fact, lock_fact, not_eq_fact, unlock_fact}
+use Rattle.sap_shapes.specs.ReservedFacts.{delete_fact, eq_fact, event_fact, init_fact, input_fact, insert_fact, is_in_fact, is_not_set_fact, lock_fact, not_eq_fact, unlock_fact}
 use Rattle.sap_restrict.specs.Sentences.{MeetsDemands, Says}
 use Rattle.sap_restrict.specs.Shown.{AreLinear, HasAlike, HasFact}
 use Rattle.sap_restrict.specs.declared.which.Which.{Which}

@@ -9,10 +9,11 @@ use Rattle.sap_restrict.proofs.Admissions.{carried}
 use Rattle.sap_restrict.proofs.Elements.{all_of_each, first_of, first_or_behind, none_in}
 use Rattle.sap_restrict.proofs.Meaning.{meaning_law}
 use Rattle.sap_restrict.specs.Examples.{one_by_one, started, started_twice, same_found_equal, different_found_equal, different_found_different, same_found_different, stored_found, deleted_found, replaced_found, found_before, deleted_missed, stored_missed, other_missed, locked_again, locked_while_held, known_input, unknown_input, input_twice, input_after_event, input_not_last}
-use Rattle.sap_restrict.specs.ReservedFacts.{delete_fact, eq_fact, event_fact, init_fact, input_fact, insert_fact, is_in_fact, is_not_set_fact, lock_fact, not_eq_fact, unlock_fact}
+use Rattle.sap_shapes.specs.ReservedFacts.{delete_fact, eq_fact, event_fact, init_fact, input_fact, insert_fact, is_in_fact, is_not_set_fact, lock_fact, not_eq_fact, unlock_fact}
 use Rattle.sap_restrict.specs.Sentences.{EachEqual, EachFound, EachLock, EachMissed, EachServed, EachUnequal, InitOnce, Says}
 use Rattle.sap_restrict.specs.Shown.{HasAlike}
-use Rattle.sap_restrict.specs.Standard.{each_equal, each_found, each_lock, each_missed, each_served, each_unequal, one_start, standard}
+use Rattle.sap_restrict.specs.Standard.{standard}
+use Rattle.sap_shapes.specs.Formulas.{each_equal, each_found, each_lock, each_missed, each_served, each_unequal, one_start}
 use Rattle.sap_restrict.specs.declared.which.Which.{Which}
 use Rattle.sap_restrict.specs.declared.which.Which.TheVariants.{Eq, In, InEv, Init, Lock, NotEq, NotIn}
 use Rattle.sap_rewrite.specs.Laws.{NormalTermsDecide}

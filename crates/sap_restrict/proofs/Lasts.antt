@@ -2,7 +2,7 @@
 use Rattle.std.proofs.Common.{◌≡◌, ℕ, ◌≤◌, refl, sym, subst, ◌∙◌, inl, inr, ◌↔◌, arith, Bool, true, false, Option, Some, None}
 use Rattle.std.specs.Prelude.{MatchOption, IsTrue}
 use Rattle.sap_restrict.proofs.Longer.{IsLonger}
-use Rattle.sap_restrict.specs.ReservedFacts.{delete_fact, event_fact, init_fact, input_fact, insert_fact, lock_fact, unlock_fact}
+use Rattle.sap_shapes.specs.ReservedFacts.{delete_fact, event_fact, init_fact, input_fact, insert_fact, lock_fact, unlock_fact}
 use Rattle.sap_restrict.specs.Stands.{HasValue, IsUnlocked, IsHeldSince, IsReleased, IsUnset, IsUsable, MayTake}
 use Rattle.sap_restrict.specs.code.Deeds.{Deed, deletes, happens, inserts, knows, locks, starts, takes, unlocks}
 use Rattle.sap_terms.proofs.PlainLaws.Tests.{same_tree-refl}

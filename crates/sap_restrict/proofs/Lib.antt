@@ -11,7 +11,5 @@ pub mod Passing
 pub mod Nexts
 pub mod Telling
 pub mod OneMore
-pub mod Maps
-pub mod Inlines
 pub mod Singles
 mod Closings

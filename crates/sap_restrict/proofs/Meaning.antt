@@ -4,10 +4,10 @@ use Rattle.std.proofs.lemmas.Bool.{cases_eq}
 use Rattle.sap_formula.specs.Truth.{AnyIn, IsTrueOn, Shows, bind, facts_at}
 use Rattle.sap_restrict.proofs.Shown.{AreMessages, if_shows, is_time, shown_messages, shows_if, unbound}
 use Rattle.sap_restrict.specs.Laws.{MeaningLaw}
-use Rattle.sap_restrict.specs.ReservedFacts.{delete_fact, eq_fact, event_fact, init_fact, input_fact, insert_fact, is_in_fact, is_not_set_fact, lock_fact, not_eq_fact, unlock_fact}
+use Rattle.sap_shapes.specs.ReservedFacts.{delete_fact, eq_fact, event_fact, init_fact, input_fact, insert_fact, is_in_fact, is_not_set_fact, lock_fact, not_eq_fact, unlock_fact}
 use Rattle.sap_restrict.specs.Sentences.{EachEqual, EachFound, EachLock, EachMissed, EachServed, EachUnequal, InitOnce}
 use Rattle.sap_restrict.specs.Shown.{HasAlike}
-use Rattle.sap_restrict.specs.Standard.{L, M, X, Y, Z, each_equal, each_found, each_lock, each_missed, each_served, each_unequal, one_start}
+use Rattle.sap_shapes.specs.Formulas.{L, M, X, Y, Z, each_equal, each_found, each_lock, each_missed, each_served, each_unequal, one_start}
 use Rattle.sap_restrict.specs.declared.which.Which.TheVariants.{Eq, In, InEv, Init, Lock, NotEq, NotIn}
 use Rattle.sap_rewrite.specs.Laws.{NormalTermsDecide}
 use Rattle.sap_terms.specs.AdversaryFacts.{k_fact}

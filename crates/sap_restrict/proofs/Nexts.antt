@@ -5,7 +5,8 @@ use Rattle.sap_restrict.proofs.Longer.{IsLonger}
 use Rattle.sap_restrict.proofs.Passing.{Keeps, free_lock}
 use Rattle.sap_restrict.specs.Stands.{Machine}
 use Rattle.sap_restrict.specs.code.Deeds.{Deed, deletes, differs, equals, finds, happens, idle, inserts, knows, locks, misses, starts, takes, unlocks}
-use Rattle.sap_restrict.specs.code.Machines.{after, broken, is_the, with_at}
+use Rattle.sap_restrict.specs.code.Machines.{after, broken, is_the}
+use Rattle.sap_term_map.specs.Values.{with_at}
 use Rattle.sap_terms.proofs.PlainLaws.Tests.{same_tree-sound}
 use Rattle.sap_terms.specs.Same.{same_tree}
 use Rattle.sap_terms.specs.Tree.{Tree}

@@ -3,7 +3,7 @@ use Rattle.std.proofs.Common.{◌≡◌, ℕ, refl, sym, subst, ap, ◌⊎◌, i
 use Rattle.std.specs.Prelude.{is_none}
 use Rattle.sap_restrict.proofs.Lasts.{HeldStands, StartStands, StoreStands, UsableStands, not_same}
 use Rattle.sap_restrict.proofs.Steps.{Asks}
-use Rattle.sap_restrict.specs.ReservedFacts.{insert_fact}
+use Rattle.sap_shapes.specs.ReservedFacts.{insert_fact}
 use Rattle.sap_restrict.specs.Stands.{IsUnlocked, IsStored, IsUnset, IsUsable, Machine}
 use Rattle.sap_restrict.specs.code.Deeds.{Deed, deletes, differs, equals, finds, happens, idle, inserts, knows, locks, misses, starts, takes, unlocks}
 use Rattle.sap_restrict.specs.code.Machines.{broken, is_the}

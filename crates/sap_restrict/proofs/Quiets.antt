@@ -8,10 +8,11 @@ use Rattle.sap_restrict.proofs.Elements.{each_at, each_contains, kept_or_not, so
 use Rattle.sap_restrict.proofs.Shown.{unbound}
 use Rattle.sap_restrict.specs.Laws.{EnoughLaw, NeededLaw, NeedsLaw, QuietLaw}
 use Rattle.sap_restrict.specs.Needed.{needed, needs}
-use Rattle.sap_restrict.specs.ReservedFacts.{eq_fact, init_fact, input_fact, is_in_fact, is_not_set_fact, lock_fact, not_eq_fact}
+use Rattle.sap_shapes.specs.ReservedFacts.{eq_fact, init_fact, input_fact, is_in_fact, is_not_set_fact, lock_fact, not_eq_fact}
 use Rattle.sap_restrict.specs.Restrictions.{named}
 use Rattle.sap_restrict.specs.Shown.{NoneShows}
-use Rattle.sap_restrict.specs.Standard.{L, M, X, Y, every_which, standard}
+use Rattle.sap_restrict.specs.Standard.{every_which, standard}
+use Rattle.sap_shapes.specs.Formulas.{L, M, X, Y}
 use Rattle.sap_restrict.specs.declared.which.Which.{Which}
 use Rattle.sap_restrict.specs.declared.which.Which.TheVariants.{Eq, In, InEv, Init, Lock, NotEq, NotIn}
 use Rattle.sap_terms.specs.Choice.{Choice}

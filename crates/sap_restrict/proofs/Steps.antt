@@ -1,7 +1,7 @@
 -- Each sentence on a trace with one more time.
 use Rattle.std.proofs.Common.{◌≡◌, ℕ, ◌<◌, refl, sym, subst, ◌∙◌, inl, inr, arith}
 use Rattle.sap_restrict.proofs.Longer.{IsExtension, IsLonger, same}
-use Rattle.sap_restrict.specs.ReservedFacts.{delete_fact, eq_fact, event_fact, init_fact, input_fact, insert_fact, is_in_fact, is_not_set_fact, lock_fact, not_eq_fact, unlock_fact}
+use Rattle.sap_shapes.specs.ReservedFacts.{delete_fact, eq_fact, event_fact, init_fact, input_fact, insert_fact, is_in_fact, is_not_set_fact, lock_fact, not_eq_fact, unlock_fact}
 use Rattle.sap_restrict.specs.Sentences.{IsFound, IsServed, Says}
 use Rattle.sap_restrict.specs.Stands.{IsUnlocked, IsStored, IsUnset, IsUsable}
 use Rattle.sap_restrict.specs.code.Deeds.{Deed, deletes, differs, equals, finds, happens, inserts, knows, locks, misses, starts, takes}

@@ -11,7 +11,7 @@ use Rattle.sap_restrict.proofs.Shown.{shown_messages}
 use Rattle.sap_restrict.proofs.Steps.{says_back, says_last, says_on}
 use Rattle.sap_restrict.specs.Answer.{Answers, IsOnlyFalse}
 use Rattle.sap_restrict.specs.Laws.{PrefixLaw}
-use Rattle.sap_restrict.specs.ReservedFacts.{eq_fact, init_fact, input_fact, insert_fact, is_in_fact, is_not_set_fact, lock_fact, not_eq_fact}
+use Rattle.sap_shapes.specs.ReservedFacts.{eq_fact, init_fact, input_fact, insert_fact, is_in_fact, is_not_set_fact, lock_fact, not_eq_fact}
 use Rattle.sap_restrict.specs.Sentences.{Says}
 use Rattle.sap_restrict.specs.Shown.{HasAlike}
 use Rattle.sap_restrict.specs.Standard.{IsAdmitted}

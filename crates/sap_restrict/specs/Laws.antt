@@ -1,13 +1,12 @@
 -- What holds of the seven restrictions.
 use Rattle.std.specs.Prelude.{◌≡◌, ◌↔◌, ◌⊎◌, ◌++◌, List, Contains, false}
 use Rattle.sap_formula.specs.Filled.{filled}
-use Rattle.sap_formula.specs.Form.{Form}
 use Rattle.sap_formula.specs.HoldsOf.{AreTrueOn}
 use Rattle.sap_formula.specs.Laws.{IsClosed}
 use Rattle.sap_formula.specs.Truth.{EachIn, IsTrueOn}
-use Rattle.sap_formula.specs.declared.lemma.Mode.TheVariants.{AllTraces, ExistsTrace}
 use Rattle.sap_process.specs.Proc.{Proc}
-use Rattle.sap_restrict.specs.Inline.{formulas, inlined}
+use Rattle.sap_inline.specs.Inline.{formulas}
+pub use Rattle.sap_inline.specs.Laws.{InlinedForAllLaw, InlinedForSomeLaw}
 use Rattle.sap_restrict.specs.Needed.{needed, needs}
 use Rattle.sap_restrict.specs.Quiet.{premise_name}
 use Rattle.sap_restrict.specs.Restrictions.{needed_restrictions}
@@ -51,16 +50,6 @@ EnoughLaw =
 -- a full trace of messages is admitted exactly where it meets the seven sentences
 abbrev pub AdmittedLaw : Type 0
 AdmittedLaw = (g : Sig) (tr : Trace) → IsMessageTrace g tr → AreLinear tr → IsAdmitted g tr ↔ MeetsDemands (equations g) tr
-
--- a formula for all traces that carries restrictions is true on a trace exactly where the formula is, if the trace meets them
-abbrev pub InlinedForAllLaw : Type 0
-InlinedForAllLaw =
-    (g : Sig) (us : List Form) (f : Form) (tr : Trace) → IsTrueOn g (inlined AllTraces us f) tr ↔ (AreTrueOn g us tr → IsTrueOn g f tr)
-
--- one for some trace is true on a trace exactly where the trace meets them and the formula is true on it
-abbrev pub InlinedForSomeLaw : Type 0
-InlinedForSomeLaw =
-    (g : Sig) (us : List Form) (f : Form) (tr : Trace) → IsTrueOn g (inlined ExistsTrace us f) tr ↔ (AreTrueOn g us tr × IsTrueOn g f tr)
 
 -- each of the seven formulas is closed, over each signature
 abbrev pub StandardClosedLaw : Type 0

@@ -1,4 +1,5 @@
-pub mod ReservedFacts
+pub use Rattle.sap_shapes.specs.ReservedFacts
+pub use Rattle.sap_shapes.specs.Formulas
 pub mod Shown
 pub mod Standard
 pub mod Sentences
@@ -12,4 +13,4 @@ pub mod View
 pub mod code
 pub mod Answer
 pub mod OneMore
-pub mod Inline
+pub use Rattle.sap_inline.specs.Inline

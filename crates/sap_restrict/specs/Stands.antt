@@ -1,6 +1,6 @@
 -- For which traces a guard stands. `H k f` is read: time k has the fact f.
 use Rattle.std.specs.Prelude.{◌≡◌, ℕ, ◌<◌, ◌≤◌, ◌⊎◌, ◌↔◌, Bool, List, Option, MatchOption, Contains, IsTrue, true}
-use Rattle.sap_restrict.specs.ReservedFacts.{delete_fact, event_fact, init_fact, input_fact, insert_fact, lock_fact, unlock_fact}
+use Rattle.sap_shapes.specs.ReservedFacts.{delete_fact, event_fact, init_fact, input_fact, insert_fact, lock_fact, unlock_fact}
 use Rattle.sap_restrict.specs.Shown.{HasAlike}
 use Rattle.sap_restrict.specs.Standard.{IsAdmitted}
 use Rattle.sap_terms.specs.AdversaryFacts.{k_fact}

@@ -1,176 +1,17 @@
 //! The seven restrictions as formulas.
 ghost use Rattle.std.specs.Prelude.{◌≡◌, IfOk};
 ghost use Rattle.sap_formula.specs.View.{form};
+ghost use Rattle.sap_shapes.specs.Shapes.{says};
 ghost use Rattle.sap_restrict.specs.Standard.{standard};
-ghost use Rattle.sap_restrict.specs.code.Shapes.{says};
 
 use crate::Which;
-use crate::shape::{Shape, built};
+use crate::shape::built;
 use sap_formula::Formula;
+use sap_shapes::{
+    Shape, each_equal, each_found, each_lock, each_missed, each_served, each_unequal, one_start,
+};
 use sap_terms::Mem;
 use std::alloc::Global;
-
-/// `All #i #j. Init()@i & Init()@j ==> #i = #j`
-const ONE_START: Shape<'static> = Shape::All(
-    b"ij",
-    &Shape::Imp(
-        &Shape::And(
-            &Shape::Shows(b"Init", b"", b"i"),
-            &Shape::Shows(b"Init", b"", b"j"),
-        ),
-        &Shape::Same(b"i", b"j"),
-    ),
-);
-
-/// `All X Y #i. Eq(X,Y)@i ==> X = Y`
-const EACH_EQUAL: Shape<'static> = Shape::All(
-    b"XYi",
-    &Shape::Imp(&Shape::Shows(b"Eq", b"XY", b"i"), &Shape::Equal(b'X', b'Y')),
-);
-
-/// `All X Y #i. NotEq(X,Y)@i ==> not (X = Y)`
-const EACH_UNEQUAL: Shape<'static> = Shape::All(
-    b"XYi",
-    &Shape::Imp(
-        &Shape::Shows(b"NotEq", b"XY", b"i"),
-        &Shape::Not(&Shape::Equal(b'X', b'Y')),
-    ),
-);
-
-/// `All X Y #i. IsIn(X,Y)@i ==> (LAST_INSERT)`
-const EACH_FOUND: Shape<'static> = Shape::All(
-    b"XYi",
-    &Shape::Imp(&Shape::Shows(b"IsIn", b"XY", b"i"), &LAST_INSERT),
-);
-
-/// `Ex #j. Insert(X,Y)@j & #j < #i & (NO_DELETE) & (NO_INSERT)`
-const LAST_INSERT: Shape<'static> = Shape::Ex(
-    b"j",
-    &Shape::And(&Shape::And(&INSERTED_BEFORE, &NO_DELETE), &NO_INSERT),
-);
-
-/// `Insert(X,Y)@j & #j < #i`
-const INSERTED_BEFORE: Shape<'static> = Shape::And(
-    &Shape::Shows(b"Insert", b"XY", b"j"),
-    &Shape::Less(b"j", b"i"),
-);
-
-/// `All #k. Delete(X)@k ==> #k < #j | #i < #k`
-const NO_DELETE: Shape<'static> = Shape::All(
-    b"k",
-    &Shape::Imp(&Shape::Shows(b"Delete", b"X", b"k"), &BEFORE_OR_AFTER),
-);
-
-/// `All Z #k. Insert(X,Z)@k ==> #k < #j | #k = #j | #i < #k`
-const NO_INSERT: Shape<'static> = Shape::All(
-    b"Zk",
-    &Shape::Imp(&Shape::Shows(b"Insert", b"XZ", b"k"), &BEFORE_AT_OR_AFTER),
-);
-
-/// `All X Y #i #j. MISSED_AFTER ==> (DELETED_BETWEEN)`
-const EACH_MISSED: Shape<'static> = Shape::All(
-    b"XYij",
-    &Shape::Imp(&MISSED_AFTER, &DELETED_BETWEEN),
-);
-
-/// `IsNotSet(X)@i & Insert(X,Y)@j & #j < #i`
-const MISSED_AFTER: Shape<'static> = Shape::And(
-    &Shape::And(
-        &Shape::Shows(b"IsNotSet", b"X", b"i"),
-        &Shape::Shows(b"Insert", b"XY", b"j"),
-    ),
-    &Shape::Less(b"j", b"i"),
-);
-
-/// `Ex #k. Delete(X)@k & #j < #k & #k < #i`
-const DELETED_BETWEEN: Shape<'static> = Shape::Ex(
-    b"k",
-    &Shape::And(
-        &Shape::And(
-            &Shape::Shows(b"Delete", b"X", b"k"),
-            &Shape::Less(b"j", b"k"),
-        ),
-        &Shape::Less(b"k", b"i"),
-    ),
-);
-
-/// `All L M X #i #j. LOCKED_TWICE ==> (UNLOCKED_BETWEEN)`
-const EACH_LOCK: Shape<'static> = Shape::All(
-    b"LMXij",
-    &Shape::Imp(&LOCKED_TWICE, &UNLOCKED_BETWEEN),
-);
-
-/// `Lock(L,X)@i & Lock(M,X)@j & #i < #j`
-const LOCKED_TWICE: Shape<'static> = Shape::And(
-    &Shape::And(
-        &Shape::Shows(b"Lock", b"LX", b"i"),
-        &Shape::Shows(b"Lock", b"MX", b"j"),
-    ),
-    &Shape::Less(b"i", b"j"),
-);
-
-/// `Ex #k. Unlock(L,X)@k & #i < #k & #k < #j`
-const UNLOCKED_BETWEEN: Shape<'static> = Shape::Ex(
-    b"k",
-    &Shape::And(
-        &Shape::And(
-            &Shape::Shows(b"Unlock", b"LX", b"k"),
-            &Shape::Less(b"i", b"k"),
-        ),
-        &Shape::Less(b"k", b"j"),
-    ),
-);
-
-/// `All X #i. InEvent(X)@i ==> (LAST_KNOWN)`
-const EACH_SERVED: Shape<'static> = Shape::All(
-    b"Xi",
-    &Shape::Imp(&Shape::Shows(b"InEvent", b"X", b"i"), &LAST_KNOWN),
-);
-
-/// `Ex #j. KNOWN_LAST & (NO_EVENT) & (All Y #k. InEvent(Y)@k ==> #k < #j | #k = #i | #i < #k)`
-const LAST_KNOWN: Shape<'static> = Shape::Ex(
-    b"j",
-    &Shape::And(&Shape::And(&KNOWN_LAST, &NO_EVENT), &NO_OTHER_INPUT),
-);
-
-/// `K(X)@j & #j < #i & (All Y #k. K(Y)@k ==> #k < #j | #k = #j | #i < #k)`
-const KNOWN_LAST: Shape<'static> = Shape::And(
-    &Shape::And(&Shape::Shows(b"K", b"X", b"j"), &Shape::Less(b"j", b"i")),
-    &Shape::All(
-        b"Yk",
-        &Shape::Imp(&Shape::Shows(b"K", b"Y", b"k"), &BEFORE_AT_OR_AFTER),
-    ),
-);
-
-/// `All #k. Event()@k ==> #k < #j | #i < #k`
-const NO_EVENT: Shape<'static> = Shape::All(
-    b"k",
-    &Shape::Imp(&Shape::Shows(b"Event", b"", b"k"), &BEFORE_OR_AFTER),
-);
-
-/// `All Y #k. InEvent(Y)@k ==> #k < #j | #k = #i | #i < #k`
-const NO_OTHER_INPUT: Shape<'static> = Shape::All(
-    b"Yk",
-    &Shape::Imp(
-        &Shape::Shows(b"InEvent", b"Y", b"k"),
-        &Shape::Or(
-            &Shape::Or(&Shape::Less(b"k", b"j"), &Shape::Same(b"k", b"i")),
-            &Shape::Less(b"i", b"k"),
-        ),
-    ),
-);
-
-/// `#k < #j | #i < #k`
-const BEFORE_OR_AFTER: Shape<'static> = Shape::Or(
-    &Shape::Less(b"k", b"j"),
-    &Shape::Less(b"i", b"k"),
-);
-
-/// `#k < #j | #k = #j | #i < #k`
-const BEFORE_AT_OR_AFTER: Shape<'static> = Shape::Or(
-    &Shape::Or(&Shape::Less(b"k", b"j"), &Shape::Same(b"k", b"j")),
-    &Shape::Less(b"i", b"k"),
-);
 
 /// The formula of a restriction. Want of memory is the only error.
 pub fn standard(alloc: Global, which: Which) -> Result<Formula, Mem>
@@ -192,12 +33,12 @@ fn shape_of(which: Which) -> Shape<'static>
     ensures { says result ≡ standard which }
 {
     match which {
-        Which::Init => ONE_START,
-        Which::Eq => EACH_EQUAL,
-        Which::NotEq => EACH_UNEQUAL,
-        Which::In => EACH_FOUND,
-        Which::NotIn => EACH_MISSED,
-        Which::Lock => EACH_LOCK,
-        Which::InEv => EACH_SERVED,
+        Which::Init => one_start(),
+        Which::Eq => each_equal(),
+        Which::NotEq => each_unequal(),
+        Which::In => each_found(),
+        Which::NotIn => each_missed(),
+        Which::Lock => each_lock(),
+        Which::InEv => each_served(),
     }
 }

@@ -1,7 +1,8 @@
 //! The guard, which keeps a trace within the seven restrictions as it grows.
-ghost use Rattle.std.specs.Prelude.{◌≡◌, [], IfOk, OnErr, Ok, option_map};
+ghost use Rattle.std.specs.Prelude.{◌≡◌, [], IfOk, OnErr, OnOk, Ok, Some, option_map};
 ghost use Rattle.std.specs.Option.{option_copied};
 ghost use Rattle.sap_terms.specs.View.{tree};
+ghost use Rattle.sap_term_map.specs.Values.{value_at, with_at};
 ghost use Rattle.sap_restrict.specs.Answer.{Answers};
 ghost use Rattle.sap_restrict.specs.Stands.{HasOneReserved, KeepsTrace};
 ghost use Rattle.sap_restrict.specs.View.{machine};
@@ -9,9 +10,10 @@ ghost use Rattle.sap_restrict.specs.code.Deeds.{deed, deed_by, deed_none, deed_o
 ghost use Rattle.sap_restrict.specs.code.Machines.{Does, fresh_machine, is_the};
 
 use crate::Which;
-use crate::term_map::TermMap;
 use crate::times::reserved_fact;
+use sap_formula::both;
 use sap_rewrite::normal_terms_decide;
+use sap_term_map::{TermMap, unset};
 use sap_terms::{Copied, Fact, FactList, Mem, Term};
 use std::alloc::Global;
 
@@ -180,7 +182,7 @@ impl Guard {
     fn delete(&mut self, x: &Term) -> Admit
         ensures { Does (deletes (tree x.now)) (Ok result) (machine self.old) (machine self.new) }
     {
-        self.stored.remove(x);
+        unset(&mut self.stored, x);
         Admit::Kept
     }
 
@@ -218,7 +220,7 @@ impl Guard {
     fn insert(&mut self, x: &Term, v: &Term) -> Result<Admit, Mem>
         ensures { Does (inserts (tree x.now) (tree v.now)) result (machine self.old) (machine self.new) }
     {
-        self.stored.put_copies(self.alloc, x, v)?;
+        put_copies(self.alloc, x, v, &mut self.stored)?;
         Ok(Admit::Kept)
     }
 
@@ -237,7 +239,7 @@ impl Guard {
         if self.held.get(x).is_some() {
             return Ok(Admit::Broken { which: Which::Lock });
         }
-        self.held.put_copies(self.alloc, x, l)?;
+        put_copies(self.alloc, x, l, &mut self.held)?;
         Ok(Admit::Kept)
     }
 
@@ -249,6 +251,15 @@ impl Guard {
         }
         Admit::Kept
     }
+}
+
+/// Puts copies of the two into the map. Refused, it has what it had.
+fn put_copies(alloc: Global, key: &Term, value: &Term, terms: &mut TermMap) -> Result<(), Mem>
+    ensures ok { OnOk result (value_at terms.new ≡ with_at (value_at terms.old) (tree key.now) (Some (tree value.now))) }
+    ensures err { OnErr result (value_at terms.new ≡ value_at terms.old) }
+{
+    let two = both(key.copy(alloc), value.copy(alloc))?;
+    terms.put(two.0, two.1)
 }
 
 /// Whether it is this term.

@@ -5,12 +5,12 @@ ghost use Rattle.sap_process.specs.Proc.{act, lookup, nil, parallel, replicated,
 ghost use Rattle.sap_formula.specs.Examples.{a, b, x};
 ghost use Rattle.sap_formula.specs.Truth.{IsTrueOn};
 ghost use Rattle.sap_terms.specs.Signature.{Sig};
-ghost use Rattle.sap_restrict.specs.Standard.{one_start, each_equal, each_unequal, each_found, each_missed, each_lock, each_served};
+ghost use Rattle.sap_shapes.specs.Formulas.{one_start, each_equal, each_unequal, each_found, each_missed, each_lock, each_served};
 ghost use Rattle.sap_restrict.specs.Examples.{started, started_twice, same_found_equal, different_found_equal, different_found_different, same_found_different, stored_found, deleted_found, replaced_found, found_before, deleted_missed, stored_missed, other_missed, locked_again, locked_while_held, known_input, unknown_input, input_twice, input_after_event, input_not_last};
 ghost use Rattle.sap_restrict.specs.Needed.{needed};
 ghost use Rattle.sap_restrict.specs.declared.which.Which.TheVariants as which;
 ghost use Rattle.sap_restrict.specs.OneMore.{OneMoreLaw};
-ghost use Rattle.sap_restrict.specs.Laws.{MeaningLaw, PrefixLaw, QuietLaw, NeededLaw, NeedsLaw, EnoughLaw, AdmittedLaw, InlinedForAllLaw, InlinedForSomeLaw};
+ghost use Rattle.sap_restrict.specs.Laws.{MeaningLaw, PrefixLaw, QuietLaw, NeededLaw, NeedsLaw, EnoughLaw, AdmittedLaw};
 
 use sap_rewrite::normal_terms_decide;
 use sap_terms::names_are_messages;
@@ -38,14 +38,6 @@ pub fn one_restriction_breaks()
 {
     normal_terms_decide();
 }
-
-/// A law: a formula that carries restrictions is true on a trace exactly where it says what the formula says under them: for all
-/// traces, where the formula is true if they are; for some trace, where they are true and the formula too. What follows for all
-/// traces of rules and of a process, `inlined_lemmas_hold` of `sap_gen` says.
-pub fn inlining_keeps_lemmas()
-    ensures for_all { InlinedForAllLaw }
-    ensures for_some { InlinedForSomeLaw }
-{}
 
 /// A law: the seven formulas on small traces, by hand: each on one where it is true, and on one where it is false. What was stored
 /// is found until it is deleted or replaced, and not before; where it is deleted or the key is another, nothing is found. A term

@@ -5,11 +5,9 @@ mod choosing;
 mod closing_laws;
 mod formulas;
 mod guard;
-mod inlining;
 mod laws;
 mod restrictions;
 mod shape;
-mod term_map;
 mod times;
 mod uses;
 mod which;
@@ -18,11 +16,10 @@ pub use choosing::needed;
 pub use closing_laws::restrictions_are_closed;
 pub use formulas::standard;
 pub use guard::{Admit, Guard};
-pub use inlining::inline;
 pub use laws::{
-    inlining_keeps_lemmas, needed_by_hand, one_restriction_breaks, restrictions_by_hand,
-    restrictions_say_sentences,
+    needed_by_hand, one_restriction_breaks, restrictions_by_hand, restrictions_say_sentences,
 };
 pub use restrictions::{is_generated, needed_restrictions, restriction};
+pub use sap_inline::{inline, inlining_keeps_lemmas};
 pub use times::has_one_reserved;
 pub use which::{Which, WhichList};

@@ -1,42 +1,18 @@
 //! Formulas made after shapes.
 ghost use Rattle.std.specs.Prelude.{◌≡◌, ◌++◌, [], ◌∷◌, map, IfOk, OnOk};
-ghost use Rattle.sap_formula.specs.Form.{action, equal, both, implies, negation};
+ghost use Rattle.sap_formula.specs.Form.{action, equal, negation};
 ghost use Rattle.sap_formula.specs.View.{form};
 ghost use Rattle.sap_terms.specs.AdversaryFacts.{linear};
 ghost use Rattle.sap_terms.specs.Tree.{variable};
 ghost use Rattle.sap_terms.specs.View.{tree};
-ghost use Rattle.sap_restrict.specs.Standard.{any_message};
-ghost use Rattle.sap_restrict.specs.code.Shapes.{binder, joined, quantified, says, timed};
+ghost use Rattle.sap_shapes.specs.Formulas.{any_message};
+ghost use Rattle.sap_shapes.specs.Shapes.{binder, says};
+ghost use Rattle.sap_restrict.specs.code.Shapes.{joined, quantified, timed};
 
 use sap_formula::{Binder, Binders, Formula, both};
-use sap_terms::{Fact, Items, Mem, Name, Sort, Term, TermList, Var};
+use sap_shapes::Shape;
+use sap_terms::{Fact, Items, Mem, Name, Sort, Term, TermList, Var, boxed};
 use std::alloc::Global;
-
-/// What a formula says, where each name of a variable is a letter: of a message variable a capital, of a time variable a small
-/// one. It takes no memory.
-#[derive(Clone, Copy)]
-pub(crate) enum Shape<'a> {
-    /// `NAME(v, .., w)@t`
-    Shows(&'a [u8], &'a [u8], &'a [u8]),
-    /// `v = w`
-    Equal(u8, u8),
-    /// `#a = #b`
-    Same(&'a [u8], &'a [u8]),
-    /// `#a < #b`
-    Less(&'a [u8], &'a [u8]),
-    /// `not f`
-    Not(&'a Shape<'a>),
-    /// `f & g`
-    And(&'a Shape<'a>, &'a Shape<'a>),
-    /// `f | g`
-    Or(&'a Shape<'a>, &'a Shape<'a>),
-    /// `f ==> g`
-    Imp(&'a Shape<'a>, &'a Shape<'a>),
-    /// `All X .. #i ... f`
-    All(&'a [u8], &'a Shape<'a>),
-    /// `Ex X .. #i ... f`
-    Ex(&'a [u8], &'a Shape<'a>),
-}
 
 /// The formula of the shape. Want of memory is the only error. It recurses as deep as the shape.
 #[cycle(built)]
@@ -66,13 +42,6 @@ fn built_both(
     ensures { IfOk result (λ two. (form two.0.value ≡ says f.now) × (form two.1.value ≡ says g.now)) }
 {
     both(built(alloc, f), built(alloc, g))
-}
-
-/// The formula in a box.
-pub(crate) fn boxed(alloc: Global, f: Formula) -> Result<Box<Formula>, Mem>
-    ensures { IfOk result (λ r. form r.value ≡ form f) }
-{
-    Ok(Box::new(alloc, f)?)
 }
 
 fn shown(alloc: Global, name: &[u8], letters: &[u8], t: &[u8]) -> Result<Box<Formula>, Mem>
@@ -150,20 +119,6 @@ fn negated(alloc: Global, f: Box<Formula>) -> Result<Box<Formula>, Mem>
     boxed(alloc, Formula::Not(f))
 }
 
-/// `f & g`
-pub(crate) fn and(alloc: Global, two: (Box<Formula>, Box<Formula>)) -> Result<Box<Formula>, Mem>
-    ensures { IfOk result (λ r. form r.value ≡ both (form two.0.value) (form two.1.value)) }
-{
-    boxed(alloc, Formula::And(two.0, two.1))
-}
-
-/// `f ==> g`
-pub(crate) fn implied(alloc: Global, two: (Box<Formula>, Box<Formula>)) -> Result<Box<Formula>, Mem>
-    ensures { IfOk result (λ r. form r.value ≡ implies (form two.0.value) (form two.1.value)) }
-{
-    boxed(alloc, Formula::Imp(two.0, two.1))
-}
-
 /// The connective of this shape between the two.
 fn joined(
     alloc: Global,
@@ -173,9 +128,9 @@ fn joined(
     ensures { IfOk result (λ r. form r.value ≡ joined like.now (form two.0.value) (form two.1.value)) }
 {
     match like {
-        Shape::And(_, _) => and(alloc, two),
+        Shape::And(_, _) => boxed(alloc, Formula::And(two.0, two.1)),
         Shape::Or(_, _) => boxed(alloc, Formula::Or(two.0, two.1)),
-        _ => implied(alloc, two),
+        _ => boxed(alloc, Formula::Imp(two.0, two.1)),
     }
 }
 

@@ -1,6 +1,7 @@
 //! Steps of runs as they are written, with every choice named.
 #![tactic(auto)]
 
+mod copies;
 mod laws;
 mod limits;
 mod process_step;

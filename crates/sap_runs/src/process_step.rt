@@ -1,6 +1,5 @@
 //! Written steps of processes.
-ghost use Rattle.std.specs.Prelude.{◌≡◌, IfOk};
-
+use crate::copies::copies;
 use sap_terms::{Bindings, Copied, Items, Mem, Name, Numbers};
 use std::alloc::Global;
 
@@ -77,30 +76,17 @@ impl Copied for PStep {
             PStep::Missing(t) => Ok(PStep::Missing(*t)),
             PStep::Lock(t) => Ok(PStep::Lock(*t)),
             PStep::Unlock(t) => Ok(PStep::Unlock(*t)),
-            PStep::Embedded(t, facts, bindings) => copy_embedded(alloc, *t, facts, bindings),
+            PStep::Embedded(t, facts, bindings) => {
+                let (facts, bindings) = copies(alloc, facts, bindings)?;
+                Ok(PStep::Embedded(*t, facts, bindings))
+            }
             PStep::Name(n) => Ok(PStep::Name(*n)),
             PStep::Public(name) => Ok(PStep::Public(name.copy(alloc)?)),
-            PStep::Apply(symbol, entries) => copy_apply(alloc, symbol, entries),
+            PStep::Apply(symbol, entries) => {
+                let (symbol, entries) = copies(alloc, symbol, entries)?;
+                Ok(PStep::Apply(symbol, entries))
+            }
             PStep::Know(k) => Ok(PStep::Know(*k)),
         }
     }
-}
-
-fn copy_embedded(
-    alloc: Global,
-    thread: u64,
-    facts: &Numbers,
-    bindings: &Bindings,
-) -> Result<PStep, Mem>
-    ensures { IfOk result (λ step. step ≡ PStep.Embedded thread facts.now bindings.now) }
-{
-    let facts = facts.copy(alloc)?;
-    Ok(PStep::Embedded(thread, facts, bindings.copy(alloc)?))
-}
-
-fn copy_apply(alloc: Global, symbol: &Name, entries: &Numbers) -> Result<PStep, Mem>
-    ensures { IfOk result (λ step. step ≡ PStep.Apply symbol.now entries.now) }
-{
-    let symbol = symbol.copy(alloc)?;
-    Ok(PStep::Apply(symbol, entries.copy(alloc)?))
 }

@@ -1,4 +1,7 @@
 //! Written steps of rules.
+ghost use Rattle.std.specs.Prelude.{◌≡◌, IfOk};
+
+use crate::copies::copies;
 use sap_terms::{Bindings, Copied, Items, Mem, Name, Numbers};
 use std::alloc::Global;
 
@@ -33,15 +36,18 @@ impl Copied for RStep {
             RStep::Own(f) => Ok(RStep::Own(*f)),
             RStep::Public(name) => Ok(RStep::Public(name.copy(alloc)?)),
             RStep::Apply(symbol, entries) => {
-                let symbol = symbol.copy(alloc)?;
-                Ok(RStep::Apply(symbol, entries.copy(alloc)?))
+                let (symbol, entries) = copies(alloc, symbol, entries)?;
+                Ok(RStep::Apply(symbol, entries))
             }
             RStep::Know(k) => Ok(RStep::Know(*k)),
-            RStep::Rule(name, facts, bindings) => {
-                let name = name.copy(alloc)?;
-                let facts = facts.copy(alloc)?;
-                Ok(RStep::Rule(name, facts, bindings.copy(alloc)?))
-            }
+            RStep::Rule(name, facts, bindings) => copy_rule(alloc, name, facts, bindings),
         }
     }
+}
+
+fn copy_rule(alloc: Global, name: &Name, facts: &Numbers, bindings: &Bindings) -> Result<RStep, Mem>
+    ensures { IfOk result (λ step. step ≡ RStep.Rule name.now facts.now bindings.now) }
+{
+    let (name, facts) = copies(alloc, name, facts)?;
+    Ok(RStep::Rule(name, facts, bindings.copy(alloc)?))
 }

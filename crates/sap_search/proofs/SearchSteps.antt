@@ -109,7 +109,7 @@ no_guard d gs k hs leaf h = ap (λ l. searched d (map guard l) hs leaf) (drop_of
 pub by_facts : (d : Bool) (gs : List GuardPlan) (k : ℕ) (g : GuardPlan) (hs : List Held) (leaf : List Held → Bool) → slice_get gs k ≡ Some g → searched d (map guard (drop k gs)) hs leaf ≡ any_or_all d (λ s. chosen d (map guard (drop k gs)) s hs leaf) (map sight g.facts.now)
 by_facts d gs k g hs leaf h = ap (λ z. searched d z hs leaf) (guards_got gs k g h) ∙ sym (ap (λ z. any_or_all d (λ s. chosen d z s hs leaf) (map sight g.facts.now)) (guards_got gs k g h))
 
-pub ruleset pass_laws = (front_same, front_on, one_met, one_missed, no_guard, by_facts)
+pub ruleset pass_laws = (front_same, front_on, no_guard)
 
 differs : (a d : Bool) → (a ≡ d → ⊥) → a ≡ not d
 differs true true h = absurd (h refl)

@@ -121,7 +121,7 @@ fn meets_only<'a>(values: &mut Vec<Value<'a>>, g: &GuardPlan<'a>) -> Result<bool
     ensures met { IfOk result (λ b. IsOnlyMet (guard g.now) (map held values.old.items) (map held values.new.items) b) }
     ensures front { OnOk result (StaysInFront values.old.items values.new.items) }
 {
-    Ok(meets(values, &g.atom, &g.facts[0])?)
+    meets(values, &g.atom, &g.facts[0])
 }
 
 // The same. Guards whose name has one fact alone are matched in a loop.

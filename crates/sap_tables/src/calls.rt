@@ -7,7 +7,7 @@ use crate::notation::{between, enclosed, file_bytes, number, part, parted};
 use crate::page::Page;
 use crate::show::Show;
 use crate::theories::show_read;
-use sap_outside::Asked;
+use sap_outside::{Asked, Rest};
 use sap_tool::{MemShelf, MemSink, sapic};
 use std::collections::BTreeMap;
 use std::str;
@@ -94,7 +94,7 @@ pub fn shelf_with(
         requests: Some(Vec::new(page.alloc)),
         calls: 0,
         count: 0,
-        rest: Vec::new(page.alloc),
+        rest: Rest::new(page.alloc),
         name: None,
         piece,
     }

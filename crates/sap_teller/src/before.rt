@@ -83,19 +83,18 @@ fn cited_by(alloc: Global, config: &Config, step: &PStep) -> Result<FactList, Me
     }
 }
 
-// All that is kept, where what the key has and the heads are found.
-fn with_cited(
+// All that is kept, where its parts are found.
+fn kept_of(
     alloc: Global,
     config: &Config,
     facts: u64,
-    step: &PStep,
     stored: Option<Term>,
     head: Option<Box<Form>>,
     sender: Option<Box<Form>>,
+    cited: FactList,
 ) -> Result<Box<Before>, Mem>
-    ensures { IfOk result (λ b. IsKept config.now facts step.now stored head sender b.value) }
+    ensures { IfOk result (λ b. IsKept config.now facts cited stored head sender b.value) }
 {
-    let cited = cited_by(alloc, config, step)?;
     boxed(
         alloc,
         Before {
@@ -110,40 +109,6 @@ fn with_cited(
     )
 }
 
-// All that is kept, where what the key has and the first head are found.
-fn with_sender(
-    alloc: Global,
-    config: &Config,
-    facts: u64,
-    step: &PStep,
-    stored: Option<Term>,
-    head: Option<Box<Form>>,
-) -> Result<Box<Before>, Mem>
-    requires facts { facts ≡ length config.now.facts }
-    requires stored { IsStored config.now step.now stored }
-    requires head { IsHead (configuration config.now) (head_of step.now) head }
-    ensures { IfOk result (λ b. IsBefore config.now step.now b.value) }
-{
-    let sender = sender_at(alloc, config, step)?;
-    with_cited(alloc, config, facts, step, stored, head, sender)
-}
-
-// All that is kept, where what the key has is found.
-fn with_heads(
-    alloc: Global,
-    config: &Config,
-    facts: u64,
-    step: &PStep,
-    stored: Option<Term>,
-) -> Result<Box<Before>, Mem>
-    requires facts { facts ≡ length config.now.facts }
-    requires stored { IsStored config.now step.now stored }
-    ensures { IfOk result (λ b. IsBefore config.now step.now b.value) }
-{
-    let head = head_at(alloc, config, step)?;
-    with_sender(alloc, config, facts, step, stored, head)
-}
-
 /// What is kept of a line, where so many facts ever were. Nothing changes.
 pub(crate) fn kept_before(
     alloc: Global,
@@ -155,8 +120,11 @@ pub(crate) fn kept_before(
     ensures ok { IfOk result (λ b. IsBefore config.old step.now b.value) }
     ensures kept { config.new ≡ config.old }
 {
+    let head = head_at(alloc, config, step)?;
+    let sender = sender_at(alloc, config, step)?;
+    let cited = cited_by(alloc, config, step)?;
     let stored = stored_at(alloc, config, step)?;
-    with_heads(alloc, config, facts, step, stored)
+    kept_of(alloc, config, facts, stored, head, sender, cited)
 }
 
 /// What stands at a head that was kept.

@@ -90,8 +90,7 @@ fn push_made(text: &mut Text, x: &Var) -> Result<(), Mem>
 fn push_sent(text: &mut Text, x: &Term) -> Result<(), Mem>
     ensures { OnOk result (text.new ≡ text.old ++ (codes "out(" ++ (tree_text (tree x.now) ++ codes ")"))) }
 {
-    text.push_bytes(b"out(")?;
-    push_whole_term(text, x)?;
+    push_word(text, b"out(", x)?;
     text.push_byte(b')')
 }
 
@@ -100,10 +99,7 @@ fn push_sent_on(text: &mut Text, x: &Term, u: &Term) -> Result<(), Mem>
     ensures { OnOk result (text.new ≡ text.old
         ++ (codes "out(" ++ (tree_text (tree x.now) ++ (codes "," ++ (tree_text (tree u.now) ++ codes ")"))))) }
 {
-    text.push_bytes(b"out(")?;
-    push_whole_term(text, x)?;
-    text.push_byte(b',')?;
-    push_whole_term(text, u)?;
+    push_two(text, b"out(", x, b",", u)?;
     text.push_byte(b')')
 }
 
@@ -163,8 +159,7 @@ fn push_looked(text: &mut Text, k: &Term, x: &Var) -> Result<(), Mem>
     ensures { OnOk result (text.new ≡ text.old
         ++ (codes "lookup " ++ (tree_text (tree k.now) ++ (codes " as " ++ variable_text x.now)))) }
 {
-    text.push_bytes(b"lookup ")?;
-    push_whole_term(text, k)?;
+    push_word(text, b"lookup ", k)?;
     text.push_bytes(b" as ")?;
     push_variable(text, x)
 }

@@ -1,5 +1,5 @@
 //! What lines do, found from what was kept of them.
-ghost use Rattle.std.specs.Prelude.{◌≡◌, ◌++◌, [], IfOk, IfSome, IfNone, OnOk, MatchOption, true, false};
+ghost use Rattle.std.specs.Prelude.{◌≡◌, ◌++◌, [], IfOk, IfSome, IfNone, OnOk, MatchOption};
 ghost use Rattle.sap_process.specs.Heads.{facts_terms};
 ghost use Rattle.sap_rewrite.specs.Match.{IsOnlyMatch, HasNoMatch};
 ghost use Rattle.sap_terms.specs.Equations.{equations, app2, pair_name};
@@ -42,8 +42,13 @@ fn two_forms(alloc: Global, sig: &Signature, m: &Term, n: &Term) -> Result<(Term
     ensures second { IfOk result (λ r. IsNormalForm (equations sig.now) (tree n.now) (tree r.1)) }
 {
     let first = evaluated(alloc, sig, m)?;
-    let second = evaluated(alloc, sig, n)?;
-    Ok((first, second))
+    match evaluated(alloc, sig, n) {
+        Ok(second) => Ok((first, second)),
+        Err(fault) => {
+            drop(first);
+            Err(fault)
+        }
+    }
 }
 
 // A name is made for the variable at the head.
@@ -158,28 +163,19 @@ fn bound_to(alloc: Global, p: &Term, t: &Term) -> Result<Option<Bindings>, Mem>
     match_pattern(alloc, p, t, &Bindings::new(alloc))
 }
 
-// An entry is taken, which fits the pattern.
-fn taken_alone<'a>(alloc: Global, n: &Term, x: &'a Term) -> Result<Box<Doing<'a>>, Mem>
-    ensures { IfOk result (λ r. IsFitted (tree n.now) (tree x.now) (does.Takes x.entry false) r.value) }
-{
-    match bound_to(alloc, n, x)? {
-        None => nothing(alloc),
-        Some(b) => boxed(alloc, Doing::Takes(x, false, b)),
-    }
-}
-
-// A pair is taken, whose second part fits the pattern.
-fn taken_second<'a>(
+// An entry is taken, of which this part fits the pattern: the entry itself, or the second part of a pair.
+fn taken_part<'a>(
     alloc: Global,
     n: &Term,
     x: &'a Term,
-    second: &Term,
+    part: &Term,
+    is_pair: bool,
 ) -> Result<Box<Doing<'a>>, Mem>
-    ensures { IfOk result (λ r. IsFitted (tree n.now) (tree second.now) (does.Takes x.entry true) r.value) }
+    ensures { IfOk result (λ r. IsFitted (tree n.now) (tree part.now) (does.Takes x.entry is_pair) r.value) }
 {
-    match bound_to(alloc, n, second)? {
+    match bound_to(alloc, n, part)? {
         None => nothing(alloc),
-        Some(b) => boxed(alloc, Doing::Takes(x, true, b)),
+        Some(b) => boxed(alloc, Doing::Takes(x, is_pair, b)),
     }
 }
 
@@ -207,22 +203,25 @@ pub(crate) fn taken<'a>(
     ensures { IfOk result (λ r. IsTakenBy x.entry (form_of form.entry) r.value) }
 {
     match form {
-        Some(Form::In(n)) => taken_alone(alloc, n, x),
+        Some(Form::In(n)) => taken_part(alloc, n, x, x, false),
         Some(Form::Recv(_, n)) => match second_of(x) {
             None => nothing(alloc),
-            Some(second) => taken_second(alloc, n, x, second),
+            Some(second) => taken_part(alloc, n, x, second, true),
         },
         _ => nothing(alloc),
     }
 }
 
-// What is sent on a channel, and what binds who takes it by the pattern.
-fn met_by<'a>(alloc: Global, p: &Term, channel: Term, message: Term) -> Result<Box<Doing<'a>>, Mem>
-    ensures { IfOk result (λ r. IsFitted (tree p.now) (tree message) (does.Meets channel message) r.value) }
+// What is sent, behind its channel, and what binds who takes it by the pattern.
+fn met_by<'a>(alloc: Global, p: &Term, sent: Box<(Term, Term)>) -> Result<Box<Doing<'a>>, Mem>
+    ensures { IfOk result (λ r. IsFitted (tree p.now) (tree sent.value.1) (does.Meets sent.value.0 sent.value.1) r.value) }
 {
-    match bound_to(alloc, p, &message)? {
+    match bound_to(alloc, p, &sent.1)? {
         None => nothing(alloc),
-        Some(b) => boxed(alloc, Doing::Meets(channel, message, b)),
+        Some(b) => {
+            let (channel, message) = Box::into_inner(sent);
+            boxed(alloc, Doing::Meets(channel, message, b))
+        }
     }
 }
 
@@ -238,8 +237,7 @@ pub(crate) fn met<'a>(
     match sender {
         Some(Form::Send(m, n)) => match form {
             Some(Form::Recv(_, p)) => {
-                let (a, u) = two_forms(alloc, sig, m, n)?;
-                met_by(alloc, p, a, u)
+                met_by(alloc, p, boxed(alloc, two_forms(alloc, sig, m, n)?)?)
             }
             _ => nothing(alloc),
         },
@@ -269,12 +267,12 @@ fn args_of(alloc: Global, fs: &FactList) -> Result<TermList, Mem>
 }
 
 // The arguments of facts, as one term.
-fn term_of(alloc: Global, fs: &FactList) -> Result<Term, Mem>
-    ensures { IfOk result (λ t. tree t ≡ together fs.now) }
+fn term_of(alloc: Global, fs: &FactList) -> Result<Box<Term>, Mem>
+    ensures { IfOk result (λ t. tree t.value ≡ together fs.now) }
 {
     let args = args_of(alloc, fs)?;
     let name = Name::from_bytes(alloc, b"")?;
-    Ok(Term::App(name, args))
+    boxed(alloc, Term::App(name, args))
 }
 
 // What the left side of a rule binds by the facts that are cited.
@@ -284,7 +282,7 @@ fn bound_by(alloc: Global, l: &FactList, left: &FactList) -> Result<Option<Bindi
 {
     let pattern = term_of(alloc, l)?;
     let term = term_of(alloc, left)?;
-    bound_to(alloc, &pattern, &term)
+    bound_to(alloc, &*pattern, &*term)
 }
 
 // A rule is used on the facts that are cited, adds these, and leaves variables open that stand for these terms.

@@ -1,10 +1,10 @@
 //! What comes of a line.
-ghost use Rattle.std.specs.Prelude.{◌≡◌, ◌&&◌, ◌++◌, IfOk, OnOk, map, nat_eq, true, slice_get};
+ghost use Rattle.std.specs.Prelude.{◌≡◌, ◌&&◌, ◌++◌, IfOk, OnOk, codes, decimal, map, nat_eq, true, slice_get};
 ghost use Rattle.sap_deduce.specs.Entries.{terms_of};
 ghost use Rattle.sap_grammar.specs.TermText.{tree_text};
 ghost use Rattle.sap_terms.specs.View.{tree};
 ghost use Rattle.sap_terms.specs.Tree.{fresh};
-ghost use Rattle.sap_tell.specs.ToldText.{shows_text, knows_text, bound_text, begins_text, ends_text};
+ghost use Rattle.sap_tell.specs.ToldText.{shows_text, knows_text, bound_text};
 ghost use Rattle.sap_teller.specs.code.Doings.{binding_texts, outcomes_of};
 ghost use Rattle.sap_teller.specs.code.Outcomes.{before_outcome, outcomes_from, still_first, shown_texts};
 
@@ -124,24 +124,15 @@ fn push_made(text: &mut Text, first: bool, x: &Var, n: u64) -> Result<(), Mem>
     text.push_number(n)
 }
 
-// A thread that begins.
-fn push_begins(text: &mut Text, first: bool, t: u64) -> Result<(), Mem>
-    ensures { OnOk result (text.new ≡ text.old ++ (before_outcome first ++ begins_text t)) }
+// What becomes of a thread.
+fn push_thread(text: &mut Text, first: bool, t: u64, words: &[u8]) -> Result<(), Mem>
+    ensures { OnOk result (text.new ≡ text.old
+        ++ (before_outcome first ++ (codes "thread " ++ (decimal t ++ words.now)))) }
 {
     push_before(text, first)?;
     text.push_bytes(b"thread ")?;
     text.push_number(t)?;
-    text.push_bytes(b" begins")
-}
-
-// A thread that ends.
-fn push_ends(text: &mut Text, first: bool, t: u64) -> Result<(), Mem>
-    ensures { OnOk result (text.new ≡ text.old ++ (before_outcome first ++ ends_text t)) }
-{
-    push_before(text, first)?;
-    text.push_bytes(b"thread ")?;
-    text.push_number(t)?;
-    text.push_bytes(b" ends")
+    text.push_bytes(words)
 }
 
 // An outcome in words.
@@ -167,8 +158,8 @@ pub(crate) fn push_outcomes(text: &mut Text, first: bool, doing: &Doing) -> Resu
     ensures { OnOk result (text.new ≡ text.old ++ outcomes_from first (outcomes_of doing.now)) }
 {
     match doing {
-        Doing::Ends(t) => push_ends(text, first, *t),
-        Doing::Splits(t) | Doing::Copies(t) => push_begins(text, first, *t),
+        Doing::Ends(t) => push_thread(text, first, *t, b" ends"),
+        Doing::Splits(t) | Doing::Copies(t) => push_thread(text, first, *t, b" begins"),
         Doing::Makes(x, n) => push_made(text, first, x, *n),
         Doing::Meets(_, _, b) | Doing::Takes(_, _, b) => push_bindings(text, first, b),
         Doing::Compares(_, _, true) => push_words(text, first, b"then"),

@@ -116,9 +116,6 @@ are_over-iff g ts r e = (λ h. are_over-sound g ts (sym e ∙ h), λ o. e ∙ ar
 pub ground-iff : (t : Tree) (r : Bool) → r ≡ is_ground t → (IsTrue r → IsGround t) × (IsGround t → IsTrue r)
 ground-iff t r e = (λ h. ground-sound t (sym e ∙ h), λ o. e ∙ ground-complete t o)
 
-pub are_ground-iff : (ts : Trees) (r : Bool) → r ≡ are_ground ts → (IsTrue r → AreGround ts) × (AreGround ts → IsTrue r)
-are_ground-iff ts r e = (λ h. are_ground-sound ts (sym e ∙ h), λ o. e ∙ are_ground-complete ts o)
-
 pub destructor-iff : (g : Sig) (t : Tree) (r : Bool) → r ≡ has_destructor g t → (IsTrue r → HasDestructor g t) × (HasDestructor g t → IsTrue r)
 destructor-iff g t r e = (λ h. destructor-sound g t (sym e ∙ h), λ o. e ∙ destructor-complete g t o)
 
@@ -127,4 +124,4 @@ any_destructor-iff g ts r e = (λ h. any_destructor-sound g ts (sym e ∙ h), λ
 
 pub ruleset test_laws = (over-apply, item_le-trees_count)
 
-pub ruleset test_answers = (over-iff, are_over-iff, ground-iff, are_ground-iff, destructor-iff, any_destructor-iff)
+pub ruleset test_answers = (over-iff, are_over-iff, ground-iff, destructor-iff, any_destructor-iff)

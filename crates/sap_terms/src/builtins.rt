@@ -5,7 +5,7 @@ ghost use Rattle.sap_terms.specs.Signature.{holds, with_builtin, no_builtins};
 use crate::Builtin;
 
 /// Which builtins were added. Beside the equations of pairs exactly theirs hold.
-#[derive(Clone, Copy, Debug, PartialEq, Eq)]
+#[derive(Clone, Copy)]
 pub struct Builtins {
     pub hashing: bool,
     pub symmetric: bool,

@@ -110,14 +110,6 @@ fn is_placed(places: &NameMap<u64>, name: &Name, place: u64) -> bool
 }
 
 impl<T: HasName + Drop> Named<T> {
-    // Takes the item at an index that the list has, from 0, out of it; the other items are dropped.
-    pub(crate) fn into_item(self, k: u64) -> T
-        requires { k < length self }
-        ensures { slice_get self k ≡ Some result }
-    {
-        self.items.into_item(k)
-    }
-
     /// Puts the item last. Refused, the item is dropped, and the list is as it was.
     pub fn push(&mut self, item: T) -> Result<(), Mem>
         ensures ok { OnOk result (self.new ≡ self.old ++ item ∷ []) }
@@ -186,21 +178,21 @@ impl<T: HasName + Drop> Named<T> {
 }
 
 impl<T: HasName + Copied + Drop> Named<T> {
-    // Puts a copy of the item last.
-    pub(crate) fn push_copy(&mut self, alloc: Global, item: &T) -> Result<(), Mem>
-        ensures { OnOk result (self.new ≡ self.old ++ item.now ∷ []) }
+    // Puts copies of the items last.
+    fn push_copies(&mut self, alloc: Global, items: &[T]) -> Result<(), Mem>
+        ensures { OnOk result (self.new ≡ self.old ++ items.now) }
     {
-        let copied = item.copy(alloc)?;
-        self.push(copied)
+        for x in items {
+            self.push(x.copy(alloc)?)?;
+        }
+        Ok(())
     }
 }
 
 impl<T: HasName + Copied + Drop> Copied for Named<T> {
     fn copy(&self, alloc: Global) -> Result<Named<T>, Mem> {
         let mut copied = Named::new(alloc);
-        for x in self.items.as_slice() {
-            copied.push_copy(alloc, x)?;
-        }
+        copied.push_copies(alloc, self.items.as_slice())?;
         Ok(copied)
     }
 }

@@ -1,5 +1,5 @@
 //! Signatures: which symbols are held, and the equations between them.
-ghost use Rattle.std.specs.Prelude.{◌≡◌, ℕ, ◌↔◌, List, [], ◌∷◌, ◌++◌, IsTrue, IsErrOf, OnOk, OnErr, IfOk, MatchOption, option_map, slice_get, map, length, take, None, Some, false};
+ghost use Rattle.std.specs.Prelude.{◌≡◌, ℕ, ◌↔◌, List, IsTrue, IsErrOf, OnOk, OnErr, IfOk, MatchOption, option_map, slice_get, map, length, take, None, Some, false};
 ghost use Rattle.std.specs.Option.{option_copied};
 ghost use Rattle.sap_terms.specs.Signature.{Sig, find_symbol, arity_of, IsPublic, Clashes, declared, has_builtin, is_destructor_of, builtin_symbols, public_symbol, declared_all, is_held_otherwise, first_clash, added, pairs_alone, IsMap, IsFirstClash, HoldsBuiltins};
 ghost use Rattle.sap_terms.specs.declared.signature.SigFault.TheVariants.{Mem as OutOfMemory};
@@ -17,7 +17,7 @@ pub struct Symbol {
 }
 
 /// Symbols that are added together with the equations between them.
-#[derive(Clone, Copy, Debug, PartialEq, Eq)]
+#[derive(Clone, Copy)]
 pub enum Builtin {
     /// `h/1`, without equations.
     Hashing,
@@ -179,58 +179,37 @@ fn held<'a>(symbols: &'a Named<Symbol>, name: &Name) -> Option<&'a Symbol>
     symbols.named(name)
 }
 
-// Puts a public symbol of this name and arity last.
-fn push_public(
-    alloc: Global,
-    symbols: &mut Named<Symbol>,
-    name: &[u8],
-    arity: u64,
-) -> Result<(), Mem>
-    ensures { OnOk result (symbols.new ≡ symbols.old ++ public_symbol name.now arity ∷ []) }
-{
-    let name = Name::from_bytes(alloc, name)?;
-    symbols.push(Symbol {
-        name,
-        arity,
-        private: false,
-    })
-}
-
 // Public symbols of these names and arities, in order.
 fn public_symbols(alloc: Global, rows: &[(&[u8], u64)]) -> Result<Named<Symbol>, Mem>
     ensures { IfOk result (λ ss. ss ≡ map (λ row. public_symbol row.0.now row.1) rows.now) }
 {
     let mut symbols = Named::new(alloc);
     for row in rows {
-        push_public(alloc, &mut symbols, row.0, row.1)?;
+        symbols.push(Symbol {
+            name: Name::from_bytes(alloc, row.0)?,
+            arity: row.1,
+            private: false,
+        })?;
     }
     Ok(symbols)
 }
 
-// A builtin's symbols, in order.
-fn symbols_of(alloc: Global, b: Builtin) -> Result<Named<Symbol>, Mem>
-    ensures { IfOk result (λ ss. ss ≡ builtin_symbols b) }
+// The names and arities of a builtin's symbols, in order.
+fn rows_of(b: Builtin) -> &'static [(&'static [u8], u64)]
+    ensures { map (λ row. public_symbol row.0.now row.1) result.now ≡ builtin_symbols b }
 {
     match b {
-        Builtin::Hashing => public_symbols(alloc, &[(b"h", 1)]),
-        Builtin::Symmetric => public_symbols(alloc, &[(b"senc", 2), (b"sdec", 2)]),
-        Builtin::Asymmetric => { public_symbols(alloc, &[(b"aenc", 2), (b"adec", 2), (b"pk", 1)]) }
-        Builtin::Signing => {
-            public_symbols(
-                alloc,
-                &[(b"sign", 2), (b"verify", 3), (b"pk", 1), (b"true", 0)],
-            )
-        }
-        Builtin::RevealingSigning => public_symbols(
-            alloc,
-            &[
-                (b"revealSign", 2),
-                (b"revealVerify", 3),
-                (b"getMessage", 1),
-                (b"pk", 1),
-                (b"true", 0),
-            ],
-        ),
+        Builtin::Hashing => &[(b"h", 1)],
+        Builtin::Symmetric => &[(b"senc", 2), (b"sdec", 2)],
+        Builtin::Asymmetric => &[(b"aenc", 2), (b"adec", 2), (b"pk", 1)],
+        Builtin::Signing => &[(b"sign", 2), (b"verify", 3), (b"pk", 1), (b"true", 0)],
+        Builtin::RevealingSigning => &[
+            (b"revealSign", 2),
+            (b"revealVerify", 3),
+            (b"getMessage", 1),
+            (b"pk", 1),
+            (b"true", 0),
+        ],
     }
 }
 
@@ -298,19 +277,19 @@ fn declare_all(symbols: &mut Named<Symbol>, added: &Named<Symbol>) -> Result<(),
 
 // Puts copies of these symbols last, one after another, where their names are not held; where one of these is held
 // otherwise, a clash at the first that is. Refused, the symbols are as they were.
-fn join(symbols: &mut Named<Symbol>, added: Named<Symbol>) -> Result<(), SigFault>
-    ensures ok { OnOk result (symbols.new ≡ declared_all symbols.old added) }
-    ensures no_clash { OnOk result (first_clash symbols.old added ≡ None) }
-    ensures clash { (n : List ℕ) → IsErrOf result (SigFault.Clash n) → first_clash symbols.old added ≡ Some n }
+fn join(symbols: &mut Named<Symbol>, added: &Named<Symbol>) -> Result<(), SigFault>
+    ensures ok { OnOk result (symbols.new ≡ declared_all symbols.old added.now) }
+    ensures no_clash { OnOk result (first_clash symbols.old added.now ≡ None) }
+    ensures clash { (n : List ℕ) → IsErrOf result (SigFault.Clash n) → first_clash symbols.old added.now ≡ Some n }
     ensures err { OnErr result (symbols.new ≡ symbols.old) }
 {
-    match first_clash(symbols, &added) {
+    match first_clash(symbols, added) {
         Some(k) => {
-            let symbol = added.into_item(k);
-            Err(SigFault::Clash { name: symbol.name })
+            let name = added.at(k).name.copy(symbols.allocator())?;
+            Err(SigFault::Clash { name })
         }
         None => {
-            declare_all(symbols, &added)?;
+            declare_all(symbols, added)?;
             Ok(())
         }
     }
@@ -363,8 +342,8 @@ impl Signature {
             return Ok(());
         }
         let alloc = self.symbols.allocator();
-        let added = symbols_of(alloc, b)?;
-        join(&mut self.symbols, added)?;
+        let added = public_symbols(alloc, rows_of(b))?;
+        join(&mut self.symbols, &added)?;
         self.builtins = self.builtins.including(b);
         Ok(())
     }

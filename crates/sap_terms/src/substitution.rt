@@ -1,23 +1,23 @@
 //! Terms put in for variables.
-ghost use Rattle.std.specs.Prelude.{◌≡◌, IfOk, MatchOption, map};
+ghost use Rattle.std.specs.Prelude.{◌≡◌, IfOk, map};
 ghost use Rattle.sap_terms.specs.Tree.{variable};
 ghost use Rattle.sap_terms.specs.View.{tree};
 ghost use Rattle.sap_terms.specs.Subst.{bound_to, subst_tree};
 
-use crate::{Binding, Bindings, Copied, Mem, Term, TermList, Var};
+use crate::{Bindings, Copied, Mem, Term, TermList, Var};
 use std::alloc::Global;
 
-// The first binding of this variable's name.
-fn find_binding<'a>(b: &'a Bindings, v: &Var) -> Option<&'a Binding>
-    ensures { MatchOption result (bound_to b.now v.now ≡ variable v.now)
-        (λ e. bound_to b.now v.now ≡ tree e.now.term) }
+// The term that this variable's name is bound to first, else the variable, which is this term.
+fn bound_to<'a>(b: &'a Bindings, v: &Var, t: &'a Term) -> &'a Term
+    requires { tree t.now ≡ variable v.now }
+    ensures { tree result.now ≡ bound_to b.now v.now }
 {
     for e in b.as_slice() {
         if e.var.name.same(&v.name) {
-            return Some(e);
+            return &e.term;
         }
     }
-    None
+    t
 }
 
 /// The term with each bound variable replaced by its term. Variables are known by their names.
@@ -28,13 +28,9 @@ pub fn subst(alloc: Global, t: &Term, b: &Bindings) -> Result<Term, Mem>
     ensures { IfOk result (λ r. tree r ≡ subst_tree b.now (tree t.now)) }
 {
     match t {
-        Term::Var(v) => match find_binding(b, v) {
-            Some(e) => e.term.copy(alloc),
-            None => Ok(Term::Var(v.copy(alloc)?)),
-        },
-        Term::Public(n) => Ok(Term::Public(n.copy(alloc)?)),
-        Term::Fresh(k) => Ok(Term::Fresh(*k)),
+        Term::Var(v) => bound_to(b, v, t).copy(alloc),
         Term::App(f, args) => Ok(Term::App(f.copy(alloc)?, subst_all(alloc, args, b)?)),
+        _ => t.copy(alloc),
     }
 }
 

@@ -3,10 +3,12 @@ ghost use Rattle.std.specs.Prelude.{◌≡◌, ◌<◌, ◌↔◌, [], ◌∷◌
 ghost use Rattle.std.specs.Option.{option_copied};
 ghost use Rattle.sap_terms.specs.Same.{same_tree};
 
+use crate::items::push_copies;
 use crate::{Copied, Mem, Name, Var};
 use std::alloc::Global;
 use std::hash::{Hash, Hasher};
 use std::marker::Model;
+use std::mem;
 use std::rc::Rc;
 
 /// A term of the symbolic model. Contracts see it as a plain tree, by `tree` of the specs' `View`.
@@ -61,10 +63,30 @@ fn copies(alloc: Global, ts: &[Term]) -> Result<Vec<Term>, Mem>
     ensures { IfOk result (λ v. v.items ≡ ts.now) }
 {
     let mut items = Vec::with_capacity(alloc, ts.len() + 1)?;
-    for t in ts {
-        items.push(t.copy(alloc)?)?;
-    }
+    push_copies(alloc, &mut items, ts)?;
     Ok(items)
+}
+
+// These terms and this one, in a list that nothing else shares.
+fn with_last(alloc: Global, items: Vec<Term>, item: Term) -> Result<Rc<Vec<Term>>, Mem>
+    ensures { IfOk result (λ r. r.value.items ≡ items.items ++ item ∷ []) }
+{
+    let mut items = items;
+    items.push(item)?;
+    Ok(Rc::new(alloc, items)?)
+}
+
+// Copies of these terms, and this one.
+fn copies_with(alloc: Global, ts: &[Term], item: Term) -> Result<Rc<Vec<Term>>, Mem>
+    ensures { IfOk result (λ r. r.value.items ≡ ts.now ++ item ∷ []) }
+{
+    match copies(alloc, ts) {
+        Ok(items) => with_last(alloc, items, item),
+        Err(e) => {
+            drop(item);
+            Err(e)
+        }
+    }
 }
 
 // Puts the term last, where no other list has these terms in place, else in a list of its own.
@@ -72,14 +94,14 @@ fn push_on(alloc: Global, shared: &mut Rc<Vec<Term>>, item: Term) -> Result<(), 
     ensures ok { OnOk result (shared.new.value.items ≡ shared.old.value.items ++ item ∷ []) }
     ensures err { OnErr result (shared.new.value.items ≡ shared.old.value.items) }
 {
-    if let Some(items) = Rc::get_mut(shared) {
-        items.push(item)?;
-        return Ok(());
+    match Rc::get_mut(shared) {
+        Some(items) => Ok(items.push(item)?),
+        None => {
+            let longer = copies_with(alloc, shared.as_slice(), item)?;
+            drop(mem::replace(shared, longer));
+            Ok(())
+        }
     }
-    let mut items = copies(alloc, shared.as_slice())?;
-    items.push(item)?;
-    *shared = Rc::new(alloc, items)?;
-    Ok(())
 }
 
 impl TermList {
@@ -125,13 +147,14 @@ impl TermList {
         ensures err { OnErr result (self.new ≡ self.old) }
     {
         let alloc = self.alloc;
-        if let Some(shared) = &mut self.shared {
-            return push_on(alloc, shared, item);
+        match &mut self.shared {
+            Some(shared) => push_on(alloc, shared, item),
+            None => {
+                let first = with_last(alloc, Vec::new(alloc), item)?;
+                drop(mem::replace(&mut self.shared, Some(first)));
+                Ok(())
+            }
         }
-        let mut items = Vec::new(alloc);
-        items.push(item)?;
-        self.shared = Some(Rc::new(alloc, items)?);
-        Ok(())
     }
 
     /// The number of terms.
@@ -277,14 +300,13 @@ impl Copied for Term {
 
 impl Copied for TermList {
     fn copy(&self, _alloc: Global) -> Result<TermList, Mem> {
-        let shared = match &self.shared {
-            Some(items) => Some(items.clone()?),
-            None => None,
-        };
-        Ok(TermList {
-            alloc: self.alloc,
-            shared,
-        })
+        match &self.shared {
+            Some(items) => Ok(TermList {
+                alloc: self.alloc,
+                shared: Some(items.clone()?),
+            }),
+            None => Ok(TermList::new(self.alloc)),
+        }
     }
 }
 

@@ -1,7 +1,7 @@
 //! Tests of terms: over a signature, without variables, with a destructor. Each recurses as deep as the term.
 ghost use Rattle.std.specs.Prelude.{◌≡◌, ◌↔◌, IsTrue};
 ghost use Rattle.sap_terms.specs.Destructors.{HasDestructor, AnyHasDestructor};
-ghost use Rattle.sap_terms.specs.Ground.{IsGround, AreGround};
+ghost use Rattle.sap_terms.specs.Ground.{IsGround};
 ghost use Rattle.sap_terms.specs.Message.{IsOver, AreOver};
 ghost use Rattle.sap_terms.specs.Tree.{trees_of};
 ghost use Rattle.sap_terms.specs.View.{tree};
@@ -55,17 +55,6 @@ impl Term {
         ensures test { result ≡ is_ground (tree self.now) }
     {
         lacks_variables(self)
-    }
-}
-
-impl TermList {
-    /// Whether no variable stands in any of these terms.
-    #[tactic(auto, using(crate::proofs::TermTestLemmas::test_answers))]
-    pub fn are_ground(&self) -> bool
-        ensures ground { IsTrue result ↔ AreGround (trees_of self.now) }
-        ensures test { result ≡ are_ground (trees_of self.now) }
-    {
-        all_lack_variables(self)
     }
 }
 

@@ -5,7 +5,7 @@ use crate::{Copied, HasName, Items, Mem, Name};
 use std::alloc::Global;
 
 /// What may stand for a variable: any message, a fresh name, or a public name.
-#[derive(Clone, Copy, Debug, PartialEq, Eq, Hash)]
+#[derive(Clone, Copy, PartialEq, Eq)]
 pub enum Sort {
     Msg,
     Fresh,
@@ -13,7 +13,7 @@ pub enum Sort {
 }
 
 /// A variable: `x`, `~x` or `$x`.
-#[derive(Drop, PartialEq, Eq, Hash)]
+#[derive(Drop)]
 pub struct Var {
     pub name: Name,
     pub sort: Sort,

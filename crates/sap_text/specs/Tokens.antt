@@ -4,6 +4,8 @@ use Rattle.std.specs.Prelude.{◌≡◌, ◌≤◌, ◌<◌, ℕ, suc, ◌+◌, 
 use Rattle.std.specs.List.{list_all, list_any, count_by}
 use Rattle.std.specs.Char.{is_ascii_alphabetic, is_ascii_digit}
 use Rattle.std.specs.Str.{bytes_eq}
+use Rattle.sap_text.specs.declared.bytes.Class.{Class}
+use Rattle.sap_text.specs.declared.bytes.Class.TheVariants.{Word, Digit, Content, Inner, Line}
 use Rattle.sap_text.specs.declared.token.Kind.{Kind}
 use Rattle.sap_text.specs.declared.token.Kind.TheVariants as kind
 use Rattle.sap_text.specs.declared.token.Token.{Token}
@@ -29,6 +31,14 @@ is_not_feed b = not (b == 10)
 -- neither `'` nor a line feed
 abbrev pub is_inner : ℕ → Bool
 is_inner b = not (b == 39) && not (b == 10)
+
+-- the byte is of the class
+abbrev pub is_of : Class → ℕ → Bool
+is_of Word = is_word
+is_of Digit = is_ascii_digit
+is_of Content = is_content
+is_of Inner = is_inner
+is_of Line = is_not_feed
 
 -- the symbols, 27 of them
 abbrev pub symbols : List (List ℕ)

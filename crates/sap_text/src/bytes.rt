@@ -1,8 +1,7 @@
 //! Which bytes stand in words, numbers, blanks and quotes.
 ghost use Rattle.std.specs.Prelude.{◌≡◌, ◌≤◌, ◌<◌, length, take, drop, IfSome};
 ghost use Rattle.std.specs.List.{prefix_len};
-ghost use Rattle.std.specs.Char.{is_ascii_digit};
-ghost use Rattle.sap_text.specs.Tokens.{is_word, is_blank, is_content, is_not_feed, is_inner, starts_two, line_feeds};
+ghost use Rattle.sap_text.specs.Tokens.{is_word, is_blank, is_content, is_of, starts_two, line_feeds};
 ghost use Rattle.sap_text.specs.code.Front.{close_at};
 
 fn is_word_byte(b: u8) -> bool
@@ -24,43 +23,40 @@ fn is_content_byte(b: u8) -> bool
     b >= 32 && b <= 126 && b != b'\''
 }
 
-/// How many letters, digits and `_` stand first.
-pub fn word_len(bytes: &[u8]) -> usize
-    ensures { result ≡ prefix_len is_word bytes.now }
-{
-    bytes.iter().take_while(|b| is_word_byte(**b)).count()
+/// Classes of bytes.
+#[derive(Clone, Copy)]
+pub enum Class {
+    /// Letters, digits and `_`.
+    Word,
+    /// Digits.
+    Digit,
+    /// What may stand in a quote.
+    Content,
+    /// All but quotes and line feeds.
+    Inner,
+    /// All but line feeds.
+    Line,
 }
 
-/// How many digits stand first.
-pub fn digits_len(bytes: &[u8]) -> usize
-    ensures { result ≡ prefix_len is_ascii_digit bytes.now }
+// Whether the byte is of the class.
+fn is_of(class: Class, b: u8) -> bool
+    ensures { result ≡ is_of class b }
 {
-    bytes.iter().take_while(|b| b.is_ascii_digit()).count()
+    match class {
+        Class::Word => is_word_byte(b),
+        Class::Digit => b.is_ascii_digit(),
+        Class::Content => is_content_byte(b),
+        Class::Inner => b != b'\'' && b != b'\n',
+        Class::Line => b != b'\n',
+    }
 }
 
-/// How many bytes that may stand in a quote stand first.
-pub fn content_len(bytes: &[u8]) -> usize
-    ensures is { result ≡ prefix_len is_content bytes.now }
+/// How many bytes of the class stand first.
+pub fn run_len(class: Class, bytes: &[u8]) -> usize
+    ensures is { result ≡ prefix_len (is_of class) bytes.now }
     ensures within { result ≤ length bytes.now }
 {
-    bytes.iter().take_while(|b| is_content_byte(**b)).count()
-}
-
-/// How many bytes stand before the first quote or line feed.
-pub fn inner_len(bytes: &[u8]) -> usize
-    ensures { result ≡ prefix_len is_inner bytes.now }
-{
-    bytes
-        .iter()
-        .take_while(|b| **b != b'\'' && **b != b'\n')
-        .count()
-}
-
-/// How many bytes stand before the first line feed.
-pub fn line_len(bytes: &[u8]) -> usize
-    ensures { result ≡ prefix_len is_not_feed bytes.now }
-{
-    bytes.iter().take_while(|b| **b != b'\n').count()
+    bytes.iter().take_while(|b| is_of(class, **b)).count()
 }
 
 /// How many line feeds there are.

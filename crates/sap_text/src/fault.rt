@@ -4,7 +4,7 @@ ghost use Rattle.std.specs.Prelude.{◌≡◌};
 use std::alloc::AllocFailed;
 
 /// Why bytes have no tokens, by the fault that stands first in them. `at` is an offset in bytes, from 0.
-#[derive(Clone, Copy, Debug, PartialEq, Eq)]
+#[derive(Clone, Copy)]
 pub enum Lex {
     /// Want of memory.
     Mem,

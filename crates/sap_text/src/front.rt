@@ -2,15 +2,12 @@
 ghost use Rattle.std.specs.Prelude.{◌≡◌, ◌<◌, ◌+◌, ◌^◌, ◌∷◌, length};
 ghost use Rattle.sap_text.specs.code.Front.{quote_front, front_at, Within, Stands};
 
-use crate::bytes::{
-    behind_first, content_len, digits_len, find_close, inner_len, is_blank_byte, line_len,
-    starts_with_two, word_len,
-};
+use crate::bytes::{Class, behind_first, find_close, is_blank_byte, run_len, starts_with_two};
 use crate::symbol::symbol_length;
 use crate::{Kind, Lex};
 
 /// What stands first among some bytes.
-#[derive(Clone, Copy, Debug, PartialEq, Eq)]
+#[derive(Clone, Copy)]
 pub enum Front {
     /// A blank or a comment of so many bytes.
     Skip(usize),
@@ -24,9 +21,9 @@ fn behind_quote(at: u64, bytes: &[u8]) -> Front
     requires { at + length bytes.now < 2 ^ 63 }
     ensures { result ≡ quote_front at bytes.now }
 {
-    let inner = inner_len(bytes);
+    let inner = run_len(Class::Inner, bytes);
     if inner < bytes.len() && bytes[inner] == b'\'' {
-        let content = content_len(bytes);
+        let content = run_len(Class::Content, bytes);
         if content == inner {
             Front::Taken(Kind::Quoted, inner + 2)
         } else {
@@ -48,16 +45,16 @@ fn front_by_byte(at: u64, b: u8, rest: &[u8], bytes: &[u8]) -> Front
     if is_blank_byte(b) {
         Front::Skip(1)
     } else if starts_with_two(b'/', b'/', bytes) {
-        Front::Skip(line_len(bytes))
+        Front::Skip(run_len(Class::Line, bytes))
     } else if starts_with_two(b'/', b'*', bytes) {
         match find_close(behind_first(rest)) {
             None => Front::Fault(Lex::OpenComment { at }),
             Some(n) => Front::Skip(n + 4),
         }
     } else if b.is_ascii_alphabetic() {
-        Front::Taken(Kind::Ident, word_len(bytes))
+        Front::Taken(Kind::Ident, run_len(Class::Word, bytes))
     } else if b.is_ascii_digit() {
-        Front::Taken(Kind::Number, digits_len(bytes))
+        Front::Taken(Kind::Number, run_len(Class::Digit, bytes))
     } else if b == b'\'' {
         behind_quote(at, rest)
     } else {

@@ -10,6 +10,7 @@ mod symbol;
 mod text;
 mod token;
 
+pub use bytes::{Class, run_len};
 pub use fault::Lex;
 pub use laws::{
     lines_are_counted, longest_is_taken, longest_tokens, one_answer, some_answer, spans_are_tokens,

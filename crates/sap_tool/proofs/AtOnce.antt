@@ -6,12 +6,13 @@ use Rattle.sap_tool.specs.Call.{Call}
 use Rattle.sap_pages.specs.Pages.{IsPageOf}
 use Rattle.sap_replay.specs.Sample.{IsSample, sample_words, sample_text}
 use Rattle.sap_tool.specs.ToldAtOnce.{IsHelp, flag, list, page, version, IsToldAtOnce, sample, help}
-use Rattle.sap_tool.specs.Answers.{gives, IsAnswer, told_at_once, usage, asked_nothing}
+use Rattle.sap_answer.specs.Answer.{gives}
+use Rattle.sap_tool.specs.Answers.{IsAnswer, told_at_once, usage, asked_nothing}
 use Rattle.sap_tool.specs.code.Endings.{Ends}
 use Rattle.sap_tool.specs.code.Sampled.{EndsSample}
-use Rattle.sap_tool.specs.declared.ending.Ending.{Ending}
+use Rattle.sap_answer.specs.declared.ending.Ending.{Ending}
 use Rattle.sap_tool.proofs.Asked.{no_sample_word, second_of, apart}
-use Rattle.sap_tool.specs.declared.ending.Ending.TheVariants as ending
+use Rattle.sap_answer.specs.declared.ending.Ending.TheVariants as ending
 
 -- words that ask for a sample ask for one of so many sessions
 pub one_sample : (words : List (List ℕ)) (m n : ℕ) → IsSample words m → IsSample words n → m ≡ n

@@ -1,6 +1,6 @@
 -- From what was read to how the call ends.
 use Rattle.std.proofs.Common.{◌≡◌, ◌≢◌, ◌≤◌, ◌+◌, ℕ, List, [], ◌∷◌, ◌++◌, length, Option, None, Some, Result, Ok, Err, inl, inr, sym, ap, subst, ◌∙◌, refl}
-use Rattle.std.specs.Prelude.{IfOk, IsErrOf, IsSomeAnd, IfSome}
+use Rattle.std.specs.Prelude.{IfOk, IsErrOf, IsSomeAnd, IfSome, MatchOption}
 use Rattle.sap_read.specs.Files.{FileContent}
 use Rattle.sap_rule.specs.declared.theory.Theory.{Theory}
 use Rattle.sap_run_texts.specs.declared.run.Kinds.TheVariants as kinds
@@ -19,22 +19,26 @@ use Rattle.sap_outside.specs.RunPieces.{IsJoined, may_come, WasRead, WasGivenUp,
 use Rattle.sap_tool.specs.Call.{Call, FailedOn, AskedFor}
 use Rattle.sap_tool.specs.Commands.{Command, compile, replay, fill, check, to_json, from_json, explain, Input, alone, and_run, run_alone, file_of, run_of, HowRead, in_pieces, at_once, how_read, limit_of, Accepts, Refuses, RefusesRun}
 use Rattle.sap_replay.specs.Tasks.{kinds_of, Writes}
-use Rattle.sap_tool.specs.Answers.{tells, IsAnswerTo, allowed, refused, run_refused, Asks, for_file, for_name, IsFileFetched, WasReadSo, WasGivenUpSo, WasRunRead, WasRunGivenUp, IsRunNext, IsAnswer, to_input, usage, unread, unread_run, asked_file, asked_run, asked_both}
+use Rattle.sap_answer.specs.Answer.{Answer, gives, tells, HasText, IsDelivered, usage_text, read_fault_text}
+use Rattle.sap_tool.specs.Answers.{IsAnswerTo, allowed, refused, run_refused, Asks, for_file, for_name, IsFileFetched, WasReadSo, WasGivenUpSo, WasRunRead, WasRunGivenUp, IsRunNext, IsAnswer, IsBegun, to_input, usage, unread, unread_run, asked_file, asked_run, asked_both, Ended, answered, unanswered}
 use Rattle.sap_refusals.specs.Refusals.{refused_line}
 use Rattle.sap_refusals.specs.RunFaultTexts.{run_refused_line}
 use Rattle.sap_replay.specs.JsonRuns.{IsJsonOf, IsRunOfJson, IsJsonRefusedWith}
 use Rattle.sap_replay.specs.RunRefusals.{IsIllegal, IsIllegalOfTheory, IsNeverIllegal, IsLineOf, IsRunRefusal}
-use Rattle.sap_tool.specs.code.Endings.{Ends, EndsFile, EndsBoth, HasRead, HasGivenUp, Reading, reading, ending_of, file_ending_of, refused_ending, unread_ending, written_ending}
+use Rattle.sap_answer.specs.Endings.{ending_of, file_ending_of, refused_ending, unread_ending, written_ending}
+use Rattle.sap_tool.specs.code.Endings.{Ends, EndsFile, EndsBoth, HasRead, HasGivenUp, Reading, reading}
 use Rattle.sap_replay.specs.ShortRuns.{IsShortRefusedWith, IsFilledOf}
-use Rattle.sap_refusals.specs.declared.refusal.Refusal.{Refusal}
-use Rattle.sap_refusals.specs.declared.refusal.Refusal.TheVariants as refusal
+use Rattle.sap_answer.specs.declared.refusal.Refusal.{Refusal}
+use Rattle.sap_answer.specs.declared.refusal.Refusal.TheVariants as refusal
 use Rattle.sap_replay.specs.declared.task.Task.{Task}
 use Rattle.sap_replay.specs.declared.way.Way.{Way}
-use Rattle.sap_tool.specs.declared.ending.Ending.{Ending}
-use Rattle.sap_tool.specs.declared.ending.Ending.TheVariants as ending
-use Rattle.sap_tool.proofs.Appending.{usage_is, read_fault_is}
-use Rattle.sap_tool.proofs.Rises.{rose_before}
+use Rattle.sap_answer.specs.declared.ending.Ending.{Ending}
+use Rattle.sap_answer.specs.declared.ending.Ending.TheVariants as ending
 use Rattle.sap_tool.proofs.Some.{is_some_and}
+
+-- a count that rose behind an earlier moment rose since then
+rose_before : (before now later : ℕ) → before ≤ now → Rose now later → Rose before later
+rose_before before now later h k = omega arith
 
 -- a line that refuses a file is an answer to it
 pub file_line : (k : Command) (bytes why line : List ℕ) → Refuses k bytes why → line ≡ refused_line why → IsAnswerTo k (alone bytes) (tells 1 line)
@@ -144,12 +148,25 @@ run_unread k bytes r faults.Failed accepted failed given_up = (accepted, failed 
 run_unread k bytes r faults.Mem accepted failed given_up = inr (accepted, inl given_up)
 
 -- what is told isn't empty
-pub told_is : (c : Call) (n : ℕ) (text : List ℕ) → IsAnswer c (tells n text) → text ≢ []
+pub usage_is : usage_text ≢ []
+usage_is e = cc
+
+read_fault_is : read_fault_text ≢ []
+read_fault_is e = cc
+
+told_is : (c : Call) (n : ℕ) (text : List ℕ) → IsAnswer c (tells n text) → text ≢ []
 told_is c n _ (to_input k input asks fetched (refused why r)) e = cc
 told_is c n _ (to_input k input asks fetched (run_refused why r)) e = cc
 told_is c n _ (usage u a) e = usage_is e
 told_is c n _ (unread k asks f a) e = read_fault_is e
 told_is c n _ (unread_run k asks next f a) e = read_fault_is e
+
+-- what the call ends with was delivered
+pub ended : (c : Call) (a : Option Answer) (status : ℕ) → MatchOption a (IsBegun c) (λ one. IsAnswer c one)
+    → (IfSome a HasText → IsDelivered a c.out c.err status) → Ended (IsAnswer c) (IsBegun c) c.out c.err status
+ended c None status begun put = unanswered begun (put tt)
+ended c (Some (gives text)) status is put = answered (gives text) is (put tt)
+ended c (Some (tells n text)) status is put = answered (tells n text) is (put (told_is c n text is))
 
 -- what a task writes of a run that was read, or the line that refuses it, ends both
 pub replay_ends : (task : Task) (file run bytes z : List ℕ) (f : FileContent) (r : Reading) (text : Result (List ℕ) Refusal) → IsAcceptedFile bytes f → HasRead (replay task file run) r z

@@ -9,7 +9,8 @@ use Rattle.sap_pages.specs.Texts.{version_text}
 use Rattle.sap_tool.specs.Call.{Call, Holds}
 use Rattle.sap_tool.specs.Commands.{Command, to_json, Input, alone, and_run, run_alone, spelled, file_of, run_of, IsUnknown}
 use Rattle.sap_tool.specs.ToldAtOnce.{IsToldAtOnce, help, version}
-use Rattle.sap_tool.specs.Answers.{gives, tells, refused, run_refused, Asks, IsAnswer, to_input, told_at_once, usage, unread, unread_run, FailedOnFile, FailedOnRun, WasRunGivenUp, write_fault_text, memory_text}
+use Rattle.sap_answer.specs.Answer.{gives, tells, write_fault_text, memory_text}
+use Rattle.sap_tool.specs.Answers.{refused, run_refused, Asks, IsAnswer, to_input, told_at_once, usage, unread, unread_run, FailedOnFile, FailedOnRun, WasRunGivenUp}
 use Rattle.sap_tool.specs.Promises as promised
 use Rattle.sap_tool.specs.PromisesExamples.{asking, version_words, json_words, unknown_words}
 use Rattle.sap_tool.proofs.AtOnce.{OnePage, one_told}

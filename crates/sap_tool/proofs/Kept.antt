@@ -11,7 +11,8 @@ use Rattle.sap_tool.specs.ToldAtOnce.{IsToldAtOnce}
 use Rattle.sap_tool.specs.Call.{Call, FailedOn, Holds}
 use Rattle.sap_replay.specs.declared.way.Way.{Way}
 use Rattle.sap_tool.specs.Commands.{Command, compile, Input, alone, and_run, run_alone, file_of, run_of, HowRead, in_pieces, at_once, how_read, limit_of, IsUnknown, behaviour_of, Accepts, Refuses, RefusesRun, TakesRun, Allows}
-use Rattle.sap_tool.specs.Answers.{Answer, gives, tells, status_of, IsAnswerTo, allowed, refused, run_refused, Asks, for_file, IsFileFetched, WasReadSo, WasRunRead, Fetched, IsRunNext, FailedOnFile, FailedOnRun, IsAnswer, IsBegun, to_input, told_at_once, usage, unread, unread_run, read_fault_text, IsPut, whole, broken, wanting, IsLast, complete, cut, write_fault_text, memory_text, Ended, answered, unanswered}
+use Rattle.sap_answer.specs.Answer.{Answer, gives, tells, status_of, read_fault_text, IsPut, whole, broken, wanting, IsLast, complete, cut, write_fault_text, memory_text, no_memory}
+use Rattle.sap_tool.specs.Answers.{IsAnswerTo, allowed, refused, run_refused, Asks, for_file, IsFileFetched, WasReadSo, WasRunRead, Fetched, IsRunNext, FailedOnFile, FailedOnRun, IsAnswer, IsBegun, to_input, told_at_once, usage, unread, unread_run, Ended, answered, unanswered}
 use Rattle.sap_tool.specs.Promises as promised
 use Rattle.sap_tool.proofs.Asked.{one_command, no_command_is_told}
 use Rattle.sap_tool.proofs.Inputs.{Laws, is_sound, never_run, one_allowed, fetched_part, part_allows}
@@ -55,7 +56,7 @@ module _ (laws : Laws) (c : Call) where
     at (unread_run k asks next f n) e = (4, lit< tt, sym e)
   statuses s (answered a is (broken taken last e b p l)) = (5, lit< tt, sym e)
   statuses s (answered a is (wanting taken last e b p l)) = (6, lit< tt, sym e)
-  statuses s (unanswered begun last e none word l) = (6, lit< tt, sym e)
+  statuses s (unanswered begun (no_memory last e none word l)) = (6, lit< tt, sym e)
 
   given : (s : ℕ) → Ended (IsAnswer c) (IsBegun c) c.out c.err s → s ≡ 0 → promised.Given c ⊎ promised.GivenAtOnce c
   given s (answered (tells n text) is (whole e w)) z = absurd (at is (sym e ∙ z)) where
@@ -79,7 +80,7 @@ module _ (laws : Laws) (c : Call) where
   given s (answered _ (told_at_once text asks none) (whole e w)) z = inr (record { text = text; asked = asks; fetched = none; out = w.0; err = w.1 })
   given s (answered a is (broken taken last e b p l)) z = absurd (omega arith)
   given s (answered a is (wanting taken last e b p l)) z = absurd (omega arith)
-  given s (unanswered begun last e none word l) z = absurd (omega arith)
+  given s (unanswered begun (no_memory last e none word l)) z = absurd (omega arith)
 
   told : (n s : ℕ) → 0 < n → n < 5 → Ended (IsAnswer c) (IsBegun c) c.out c.err s → s ≡ n → promised.Told c n
   told n s more less (answered (gives text) is (whole e w)) z = absurd (omega (arith, e, z))
@@ -87,7 +88,7 @@ module _ (laws : Laws) (c : Call) where
       record { text = text; cause = subst (λ (i : ℕ). IsAnswer c (tells i text)) (sym e ∙ z) is; out = w.0; err = w.1 }
   told n s more less (answered a is (broken taken last e b p l)) z = absurd (omega arith)
   told n s more less (answered a is (wanting taken last e b p l)) z = absurd (omega arith)
-  told n s more less (unanswered begun last e none word l) z = absurd (omega arith)
+  told n s more less (unanswered begun (no_memory last e none word l)) z = absurd (omega arith)
 
   -- what is told or given whole has a status below 5
   below_five : {a : Answer} → IsAnswer c a → status_of a < 5
@@ -103,13 +104,13 @@ module _ (laws : Laws) (c : Call) where
   unwritten s (answered a is (whole e w)) z = let l = below_five is in absurd (omega (arith, l, e, z))
   unwritten s (answered a is (broken taken last e b p l)) z = record { answer = a; cause = is; broken = b; taken = taken; last = last; part = p; word = l }
   unwritten s (answered a is (wanting taken last e b p l)) z = absurd (omega arith)
-  unwritten s (unanswered begun last e none word l) z = absurd (omega arith)
+  unwritten s (unanswered begun (no_memory last e none word l)) z = absurd (omega arith)
 
   wanting_of : (s : ℕ) → Ended (IsAnswer c) (IsBegun c) c.out c.err s → s ≡ 6 → promised.Wanting c
   wanting_of s (answered a is (whole e w)) z = let l = below_five is in absurd (omega (arith, l, e, z))
   wanting_of s (answered a is (broken taken last e b p l)) z = absurd (omega arith)
   wanting_of s (answered a is (wanting taken last e b p l)) z = promised.while_put a taken last is b p l
-  wanting_of s (unanswered begun last e none word l) z = promised.before_all last begun none word l
+  wanting_of s (unanswered begun (no_memory last e none word l)) z = promised.before_all last begun none word l
 
   last_word : (s : ℕ) → Ended (IsAnswer c) (IsBegun c) c.out c.err s → (CutShort c.err → ⊥)
       → (s ≡ 5 → Gained c.err 1 write_fault_text) × (s ≡ 6 → Gained c.err 1 memory_text)
@@ -121,7 +122,7 @@ module _ (laws : Laws) (c : Call) where
   last_word s (answered (gives text) is (wanting taken last e b p l)) uncut =
       (λ z. absurd (omega (arith, e, z)), λ z. subst (λ (y : List ℕ). Gained c.err 1 y) (whole_word memory_text last uncut l) p.1)
   last_word s (answered (tells n text) is (wanting taken last e b p l)) uncut = absurd (uncut (inr b))
-  last_word s (unanswered begun last e none word l) uncut =
+  last_word s (unanswered begun (no_memory last e none word l)) uncut =
       (λ z. absurd (omega (arith, e, z)), λ z. subst (λ (y : List ℕ). Gained c.err 1 y) (whole_word memory_text last uncut l) word)
 
   -- where an answer for err was put, its status, 5 for a fault of err, or 6
@@ -137,7 +138,7 @@ module _ (laws : Laws) (c : Call) where
   must_tell_usage s (answered _ (usage u n) put) unknown = elim (told_ends s 3 _ put) [ inl h ↦ inl h.0 | inr h ↦ inr h ]
   must_tell_usage s (answered _ (unread k asks f n) put) unknown = absurd (unknown.no_command k asks)
   must_tell_usage s (answered _ (unread_run k asks next f n) put) unknown = absurd (unknown.no_command k asks)
-  must_tell_usage s (unanswered begun last e none word l) unknown = inr (inr e)
+  must_tell_usage s (unanswered begun (no_memory last e none word l)) unknown = inr (inr e)
 
   -- where no answer is a text for out, out has nothing
   nothing_given : (s : ℕ) → Ended (IsAnswer c) (IsBegun c) c.out c.err s → ((text : List ℕ) → IsAnswer c (gives text) → ⊥) → Gained c.out 0 []
@@ -145,7 +146,7 @@ module _ (laws : Laws) (c : Call) where
   nothing_given s (answered (tells n text) is (whole e w)) never_gives = w.0
   nothing_given s (answered (tells n text) is (broken taken last e b p l)) never_gives = p.0
   nothing_given s (answered (tells n text) is (wanting taken last e b p l)) never_gives = p.0
-  nothing_given s (unanswered begun last e none word l) never_gives = none
+  nothing_given s (unanswered begun (no_memory last e none word l)) never_gives = none
 
   -- words that ask for nothing are given none
   unknown_gives : IsUnknown c.words → (text : List ℕ) → IsAnswer c (gives text) → ⊥
@@ -236,7 +237,7 @@ module _ (laws : Laws) (c : Call) where
         at _ (of_run_fault next f) e = cc (e)
 
       must_refuse : (s : ℕ) → Ended (IsAnswer c) (IsBegun c) c.out c.err s → IsFileRefused s
-      must_refuse s (unanswered begun last e none word l) = inr (inr (inr e))
+      must_refuse s (unanswered begun (no_memory last e none word l)) = inr (inr (inr e))
       must_refuse s (answered a is put) = at a (answers_asked c k asked a is) put where
         at : (b : Answer) → AnswersAsked c k b → IsPut b c.out c.err s → IsFileRefused s
         at _ (of_input read f (allowed {text = other} t)) p = absurd (not_whole read f ((is_sound laws k).allowed_is_whole read other t))
@@ -276,7 +277,7 @@ module _ (laws : Laws) (c : Call) where
           at _ (of_run_fault next f) e = cc (e)
 
         must_refuse_run : (s : ℕ) → Ended (IsAnswer c) (IsBegun c) c.out c.err s → IsRunRefused s
-        must_refuse_run s (unanswered begun last e none word l) = inr (inr (inr e))
+        must_refuse_run s (unanswered begun (no_memory last e none word l)) = inr (inr (inr e))
         must_refuse_run s (answered a is put) = at a (answers_asked c k asked a is) put where
           at : (b : Answer) → AnswersAsked c k b → IsPut b c.out c.err s → IsRunRefused s
           at _ (of_input read f (allowed {text = other} t)) p = absurd (not_allowed read other f t)
@@ -294,7 +295,7 @@ module _ (laws : Laws) (c : Call) where
       -- where no count of a name rose, nor out's, a text is there unless a cause refuses what is held
       module _ (unrefused : (why : List ℕ) → promised.RefusesInput k held why → ⊥) (sound : promised.FailedOnNamed c k → ⊥) (open_out : Failed c.out → ⊥) where
         must_answer : (s : ℕ) → Ended (IsAnswer c) (IsBegun c) c.out c.err s → (s ≡ 0) ⊎ (s ≡ 6)
-        must_answer s (unanswered begun last e none word l) = inr e
+        must_answer s (unanswered begun (no_memory last e none word l)) = inr e
         must_answer s (answered a is put) = at a (answers_asked c k asked a is) put where
           at : (b : Answer) → AnswersAsked c k b → IsPut b c.out c.err s → (s ≡ 0) ⊎ (s ≡ 6)
           at _ (of_input read f (allowed t)) (whole e w) = inl e
@@ -327,7 +328,7 @@ module _ (laws : Laws) (c : Call) where
     must_tell s (answered _ (usage u none) put) open_out = absurd (u.no_text text asked)
     must_tell s (answered _ (unread k asks f none) put) open_out = absurd (no_command_is_told c.words k text asks asked)
     must_tell s (answered _ (unread_run k asks next f none) put) open_out = absurd (no_command_is_told c.words k text asks asked)
-    must_tell s (unanswered begun last e none word l) open_out = inr e
+    must_tell s (unanswered begun (no_memory last e none word l)) open_out = inr e
 
   module _ (way : Way) (file bytes : List ℕ) (asked : Asks c (compile way file)) (held : Holds c.before.holds file bytes) where
     abbrev k : Command
@@ -335,7 +336,7 @@ module _ (laws : Laws) (c : Call) where
 
     must_give : (s : ℕ) → Ended (IsAnswer c) (IsBegun c) c.out c.err s → (text : List ℕ) → Allows k (alone bytes) text → (FailedOn c file → ⊥) → (Failed c.out → ⊥)
         → ((s ≡ 0) × Gained c.out (pieces text) text) ⊎ (s ≡ 6)
-    must_give s (unanswered begun last e none word l) text t sound open_out = inr e
+    must_give s (unanswered begun (no_memory last e none word l)) text t sound open_out = inr e
     must_give s (answered a is put) text t sound open_out = at a (answers_asked c k asked a is) put where
       part : (x : List ℕ) → IsFetched c.before.holds file (limit_of k) x → Allows k (alone x) text
       part x f = subst (λ (y : List ℕ). Allows k (alone y) text) (sym (fetched_is k asked bytes x held f)) (part_allows way file bytes text t)

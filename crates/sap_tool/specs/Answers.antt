@@ -1,25 +1,15 @@
--- What there is to say of a call, and how that is put.
-use Rattle.std.specs.Prelude.{◌≡◌, ℕ, codes, List, [], ◌∷◌, ◌++◌, take, Option, None, Some, IsSomeAnd, IfSome}
+-- Which answers a call may have, and why.
+use Rattle.std.specs.Prelude.{◌≡◌, ℕ, List, [], ◌∷◌, ◌++◌, Option, None, Some, IsSomeAnd, IfSome}
 use Rattle.sap_outside.specs.Outside.{Files, IsFetched}
 use Rattle.sap_outside.specs.Requests.{Request, Requested, fetch}
-use Rattle.sap_outside.specs.Stream.{Stream, Gained, Failed, Wanted, CutShort, CutTwice}
+use Rattle.sap_outside.specs.Stream.{Stream}
+use Rattle.sap_answer.specs.Answer.{Answer, gives, tells, usage_text, read_fault_text, IsPut, IsUnanswered}
 use Rattle.sap_tool.specs.Call.{Call, FailedOn, AskedFor}
 use Rattle.sap_tool.specs.Commands.{Command, Input, alone, and_run, run_alone, spelled, file_of, run_of, HowRead, in_pieces, at_once, how_read, limit_of, IsUnknown, Accepts, Refuses, RefusesRun, Allows}
-use Rattle.sap_outside.specs.Pieces.{pieces, GainedPart}
 use Rattle.sap_refusals.specs.Refusals.{refused_line}
 use Rattle.sap_outside.specs.RunPieces.{most_run_bytes, WasRead, WasGivenUp}
 use Rattle.sap_refusals.specs.RunFaultTexts.{run_refused_line}
 use Rattle.sap_tool.specs.ToldAtOnce.{IsToldAtOnce}
-
--- a text for out, which is status 0, or a status and a text for err
-pub data Answer : Type 0 where
-  gives : (text : List ℕ) → Answer
-  tells : (status : ℕ) (text : List ℕ) → Answer
-
--- its status
-abbrev pub status_of : Answer → ℕ
-status_of (gives text) = 0
-status_of (tells status text) = status
 
 -- a command's answers to what it read: a text that is allowed; a file that is refused, before a run is read; a run that is refused
 pub data IsAnswerTo (k : Command) : Input → Answer → Type 0 where
@@ -97,22 +87,6 @@ WasRunGivenUp c k =
     IsSomeAnd (run_of k) (λ run.
     WasGivenUpSo (how_read k) c.before.holds run (for_file k) c.before.asked c.after.asked)
 
--- what is told where words ask for nothing
-abbrev pub usage_text : List ℕ
-usage_text = codes "usage: sapic COMMAND ARGUMENTS\n"
-
--- where a file or a run couldn't be read
-abbrev pub read_fault_text : List ℕ
-read_fault_text = codes "read fault\n"
-
--- the last word of 5
-abbrev pub write_fault_text : List ℕ
-write_fault_text = codes "write fault\n"
-
--- the last word of 6
-abbrev pub memory_text : List ℕ
-memory_text = codes "out of memory\n"
-
 -- the answers that a call may have, each with its cause
 pub data IsAnswer (c : Call) : Answer → Type 0 where
   to_input : {a : Answer} (k : Command) (input : Input) → Asks c k → Fetched c k input
@@ -133,51 +107,7 @@ pub data IsBegun (c : Call) : Type 0 where
   asked_run : (k : Command) → Asks c k → IsRunNext c k → WasRunGivenUp c k → IsBegun c
   asked_both : (k : Command) (z : List ℕ) → Asks c k → IsRunNext c k → WasRunRead c k z → IsBegun c
 
--- the answer's text is whole where it belongs, put in pieces on out and at once on err, and nothing was put elsewhere
-abbrev pub Whole : Answer → Stream → Stream → Type 0
-Whole (gives text) out err = Gained out (pieces text) text × Gained err 0 []
-Whole (tells status text) out err = Gained out 0 [] × Gained err 1 text
-
--- the first bytes of the answer's text are where it belongs, put in the same way, and then err was asked for one more text, of
--- which it has this
-abbrev pub Part : Answer → ℕ → List ℕ → Stream → Stream → Type 0
-Part (gives text) taken last out err = GainedPart out taken text × Gained err 1 last
-Part (tells status text) taken last out err = Gained out 0 []
-    × Gained err 2 (take taken text ++ last)
-
--- the sink failed that the answer's text was put on
-abbrev pub Broken : Answer → Stream → Stream → Type 0
-Broken (gives text) out err = Failed out
-Broken (tells status text) out err = Failed err
-
--- the sink that the answer's text was put on found no memory
-abbrev pub Starved : Answer → Stream → Stream → Type 0
-Starved (gives text) out err = Wanted out
-Starved (tells status text) out err = Wanted err
-
--- the put of the last word was cut short, beside that of the answer's text where this belongs on err
-abbrev pub CutLast : Answer → Stream → Type 0
-CutLast (gives text) err = CutShort err
-CutLast (tells status text) err = CutTwice err
-
--- what there is of a word: all of it; or a first part, where its put was cut short
-pub data IsLast (Cut : Type 0) (word : List ℕ) : List ℕ → Type 0 where
-  complete : IsLast Cut word word
-  cut : (n : ℕ) → Cut → IsLast Cut word (take n word)
-
--- the answer was put whole; or its sink failed, or found no memory, after a first part of it, and then err has the last word,
--- which says so
-pub data IsPut (a : Answer) (out err : Stream) (status : ℕ) : Type 0 where
-  whole : status ≡ status_of a → Whole a out err → IsPut a out err status
-  broken : (taken : ℕ) (last : List ℕ) → status ≡ 5 → Broken a out err → Part a taken last out err
-      → IsLast (CutLast a err) write_fault_text last
-      → IsPut a out err status
-  wanting : (taken : ℕ) (last : List ℕ) → status ≡ 6 → Starved a out err → Part a taken last out err
-      → IsLast (CutLast a err) memory_text last
-      → IsPut a out err status
-
 -- one of these answers was put; or memory was wanting before there was one, where this is so, and err has the last word
 pub data Ended (P : Answer → Type 0) (Begun : Type 0) (out err : Stream) (status : ℕ) : Type 0 where
   answered : (a : Answer) → P a → IsPut a out err status → Ended P Begun out err status
-  unanswered : Begun → (last : List ℕ) → status ≡ 6 → Gained out 0 [] → Gained err 1 last
-      → IsLast (CutShort err) memory_text last → Ended P Begun out err status
+  unanswered : Begun → IsUnanswered out err status → Ended P Begun out err status

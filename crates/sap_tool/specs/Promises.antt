@@ -3,7 +3,8 @@ use Rattle.std.specs.Prelude.{◌≡◌, ◌⊎◌, ℕ, List, [], ◌∷◌, Co
 use Rattle.sap_outside.specs.Stream.{Gained, Failed, CutShort}
 use Rattle.sap_tool.specs.Call.{Call, FailedOn, Holds}
 use Rattle.sap_tool.specs.Commands.{Command, Input, alone, and_run, run_alone, compile, file_of, run_of, IsUnknown, Refuses, RefusesRun, TakesRun, Allows, Means}
-use Rattle.sap_tool.specs.Answers.{Answer, tells, IsAnswer, Asks, Fetched, FailedOnFile, FailedOnRun, IsBegun, Part, Broken, Starved, CutLast, IsLast, write_fault_text, memory_text}
+use Rattle.sap_answer.specs.Answer.{Answer, tells, Part, Broken, Starved, CutLast, IsLast, write_fault_text, memory_text}
+use Rattle.sap_tool.specs.Answers.{IsAnswer, Asks, Fetched, FailedOnFile, FailedOnRun, IsBegun}
 use Rattle.sap_outside.specs.Pieces.{pieces}
 use Rattle.sap_refusals.specs.Refusals.{refused_line}
 use Rattle.sap_refusals.specs.RunFaultTexts.{run_refused_line}

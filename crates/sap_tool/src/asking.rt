@@ -8,13 +8,12 @@ ghost use Rattle.sap_tool.specs.code.Asked.{on_file, on_run};
 ghost use Rattle.sap_tool.specs.code.Endings.{Ends, EndsBoth, EndsFile, reading};
 
 use crate::command::{Command, OnFile, OnRun, command_of};
-use crate::ending::{Ending, of_fault, of_file, of_run, of_text};
-use crate::fetching::fetched;
 use crate::fill::fill_bytes;
 use crate::json::end_to_json;
 use crate::runs::{check_bytes, replay_bytes};
 use crate::sessions::end_sample;
 use crate::why::why_text;
+use sap_answer::{Ending, fetched, of_fault, of_file, of_run, of_text};
 use sap_outside::{Shelf, requests_are_joined};
 use sap_replay::{run_of_json, theory_text_of};
 use std::alloc::Global;

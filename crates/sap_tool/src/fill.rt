@@ -6,8 +6,7 @@ ghost use Rattle.sap_replay.specs.AcceptedFile.{IsAcceptedFile};
 ghost use Rattle.sap_tool.specs.Commands as commands;
 ghost use Rattle.sap_tool.specs.code.Endings.{EndsBoth, reading};
 
-use crate::ending::{Ending, of_fault, of_refused, of_run};
-use crate::fetching::fetched;
+use sap_answer::{Ending, fetched, of_fault, of_refused, of_run};
 use sap_outside::{MOST_RUN_BYTES, Shelf};
 use sap_read::{File, files_are_runnable};
 use sap_replay::{accepted_file, filled};

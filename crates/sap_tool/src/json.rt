@@ -6,7 +6,7 @@ ghost use Rattle.sap_tool.specs.Call.{call_of};
 ghost use Rattle.sap_tool.specs.Commands.{spelled, to_json};
 ghost use Rattle.sap_tool.specs.code.Endings.{Ends};
 
-use crate::ending::{Ending, of_fault, of_run};
+use sap_answer::{Ending, of_fault, of_run};
 use sap_outside::{Shelf, read_run};
 use sap_replay::json_of;
 use sap_run_texts::Kinds;

@@ -4,8 +4,6 @@
 mod asking;
 mod at_once_laws;
 mod command;
-mod ending;
-mod fetching;
 mod fill;
 mod fill_laws;
 mod json;

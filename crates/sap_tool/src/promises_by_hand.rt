@@ -3,7 +3,7 @@
 ghost use Rattle.std.specs.Prelude.{ℕ, codes, List, [], ◌∷◌, ◌++◌};
 ghost use Rattle.sap_outside.specs.Requests.{begin, fetch};
 ghost use Rattle.sap_pages.specs.Texts.{version_text};
-ghost use Rattle.sap_tool.specs.Answers.{memory_text, read_fault_text, usage_text, write_fault_text};
+ghost use Rattle.sap_answer.specs.Answer.{memory_text, read_fault_text, usage_text, write_fault_text};
 ghost use Rattle.sap_tool.specs.Promises.{Promises};
 ghost use Rattle.sap_tool.specs.PromisesExamples.{asking, failed, got, json_words, no_head, opens, piece, starved, unknown_words, untouched, version_words};
 

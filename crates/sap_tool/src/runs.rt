@@ -8,7 +8,7 @@ ghost use Rattle.sap_replay.specs.AcceptedTheory.{IsAcceptedTheory};
 ghost use Rattle.sap_tool.specs.Commands.{check, replay};
 ghost use Rattle.sap_tool.specs.code.Endings.{EndsBoth, reading};
 
-use crate::ending::{Ending, of_fault, of_refused, of_run};
+use sap_answer::{Ending, of_fault, of_refused, of_run};
 use sap_outside::{Shelf, read_run};
 use sap_read::{File, files_are_runnable};
 use sap_replay::{

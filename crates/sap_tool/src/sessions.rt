@@ -3,7 +3,7 @@ ghost use Rattle.std.specs.Prelude.{◌≡◌, ◌≤◌, ℕ, List, [], ◌∷�
 ghost use Rattle.sap_replay.specs.Sample.{most_sessions, sample_words};
 ghost use Rattle.sap_tool.specs.code.Sampled.{EndsSample};
 
-use crate::ending::Ending;
+use sap_answer::Ending;
 use sap_replay::{sample_text, sessions_of};
 use sap_terms::Mem;
 use std::alloc::Global;

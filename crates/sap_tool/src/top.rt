@@ -1,23 +1,19 @@
 //! The top call.
 
-ghost use Rattle.std.specs.Prelude.{◌≡◌, ◌≢◌, ◌≤◌, ◌⊎◌, ℕ, List, []};
-ghost use Rattle.sap_outside.specs.Outside.{Rose, one_more};
-ghost use Rattle.std.specs.Io.KnownBytes.{Appends};
-ghost use Rattle.sap_outside.specs.Stream.{Stream, stream, Gained};
-ghost use Rattle.sap_tool.specs.Call.{Call, call};
-ghost use Rattle.sap_tool.specs.Answers.{gives, tells, IsAnswer, IsBegun, IsPut, IsLast, Ended};
+ghost use Rattle.sap_outside.specs.Stream.{stream};
+ghost use Rattle.sap_tool.specs.Call.{call};
+ghost use Rattle.sap_tool.specs.Answers.{IsAnswer, IsBegun, Ended};
 ghost use Rattle.sap_tool.specs.Promises.{Promises};
-ghost use Rattle.sap_tool.specs.code.Endings.{Ends};
 
 use crate::asking::ending;
-use crate::ending::Ending;
+use sap_answer::deliver;
 use sap_gen::{
     one_short_theory, short_theories_are_printable, short_theories_keep_files,
     theories_are_printable, theories_keep_files,
 };
 use sap_intruder::filled_runs_are_legal;
 use sap_macro::uses_show_their_instances;
-use sap_outside::{Shelf, Sink, SinkFault, put_pieces};
+use sap_outside::{Shelf, Sink};
 use sap_pages::one_page;
 use sap_read::{files_are_printable, files_are_runnable, one_file};
 use sap_replay::{
@@ -91,65 +87,4 @@ fn run<S: Shelf, O: Sink, E: Sink>(
 {
     let ending = ending(alloc, words, shelf);
     deliver(&ending, out, err)
-}
-
-// Puts on out or on err what is said at the end.
-fn deliver<O: Sink, E: Sink>(ending: &Ending, out: &mut O, err: &mut E) -> u8
-    ensures { (c : Call) → Ends c ending.now → Ended (IsAnswer c) (IsBegun c)
-        (stream (O.seen out.old) (O.seen out.new))
-        (stream (E.seen err.old) (E.seen err.new))
-        result }
-{
-    match ending {
-        Ending::Given(text) => give(out, err, text.as_bytes()),
-        Ending::Help(text) => give(out, err, text.as_bytes()),
-        Ending::Usage => tell(err, 3, b"usage: sapic COMMAND ARGUMENTS\n"),
-        Ending::Unread => tell(err, 4, b"read fault\n"),
-        Ending::File(line) => tell(err, 1, line.as_bytes()),
-        Ending::Run(line) => tell(err, 2, line.as_bytes()),
-        Ending::Mem => last_word(err, 6, b"out of memory\n"),
-    }
-}
-
-// Puts a text on out, in pieces.
-fn give<O: Sink, E: Sink>(out: &mut O, err: &mut E, text: &[u8]) -> u8
-    ensures { IsPut (gives text.now)
-        (stream (O.seen out.old) (O.seen out.new))
-        (stream (E.seen err.old) (E.seen err.new))
-        result }
-{
-    match put_pieces(out, text) {
-        Ok(()) => 0,
-        Err(SinkFault::Failed) => last_word(err, 5, b"write fault\n"),
-        Err(SinkFault::Mem) => last_word(err, 6, b"out of memory\n"),
-    }
-}
-
-// Puts the text of a status on err, and nothing on out.
-fn tell<E: Sink>(err: &mut E, status: u8, text: &[u8]) -> u8
-    ensures { (out : Stream) → Gained out 0 [] → text.now ≢ [] → IsPut (tells status text.now) out
-        (stream (E.seen err.old) (E.seen err.new))
-        result }
-{
-    match err.put(text) {
-        Ok(()) => status,
-        Err(SinkFault::Failed) => last_word(err, 5, b"write fault\n"),
-        Err(SinkFault::Mem) => last_word(err, 6, b"out of memory\n"),
-    }
-}
-
-// Puts the last word on err, where err still takes it.
-fn last_word<E: Sink>(err: &mut E, status: u8, word: &[u8]) -> u8
-    ensures status { result ≡ status }
-    ensures faults { (E.seen err.old).faults ≤ (E.seen err.new).faults }
-    ensures wants { (E.seen err.old).wants ≤ (E.seen err.new).wants }
-    ensures asked { word.now ≢ [] → (E.seen err.new).asked ≡ one_more (E.seen err.old).asked }
-    ensures ends { (last : List ℕ) × Appends (E.seen err.old).written (E.seen err.new).written last
-        × IsLast (Rose (E.seen err.old).faults (E.seen err.new).faults ⊎ Rose (E.seen err.old).wants (E.seen err.new).wants) word.now last }
-{
-    match err.put(word) {
-        Ok(()) => status,
-        Err(SinkFault::Failed) => status,
-        Err(SinkFault::Mem) => status,
-    }
 }

@@ -11,6 +11,7 @@ use crate::formula::binders::read_binders;
 use crate::formula::build::{Connective, Measured, Quantifier, join, quantified};
 use sap_formula::Formula;
 use sap_grammar::{Limits, beyond, starts};
+use sap_levels::fits;
 use sap_terms::{Mem, Signature, boxed};
 use sap_text::Token;
 use std::alloc::Global;
@@ -238,7 +239,7 @@ fn read_second<'a>(
     match read_operand(alloc, sig, limits, bytes, depth, connective, tokens)? {
         None => Ok(None),
         Some((right, rest)) => {
-            if left.levels.max(right.levels) < depth {
+            if fits(left.levels, right.levels, depth) {
                 let both = join(alloc, connective, left, right)?;
                 Ok(Some((both, rest)))
             } else {

@@ -16,7 +16,8 @@ use Rattle.sap_formula.specs.declared.lemma.Mode.{Mode}
 use Rattle.sap_formula.specs.declared.lemma.Mode.TheVariants.{AllTraces, ExistsTrace}
 use Rattle.sap_restrict.specs.Inline.{formulas, inlined, joined}
 use Rattle.sap_restrict.specs.Restrictions.{named, restriction_name}
-use Rattle.sap_restrict.specs.Standard.{any_message, standard}
+use Rattle.sap_restrict.specs.Formulas.{any_message}
+use Rattle.sap_restrict.specs.Standard.{standard}
 use Rattle.sap_restrict.specs.declared.which.Which.{Which}
 use Rattle.sap_restrict.specs.declared.which.Which.TheVariants.{Eq, In, InEv, Init, Lock, NotEq, NotIn}
 use Rattle.sap_text.specs.Tokens.{is_word}

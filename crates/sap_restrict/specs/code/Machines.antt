@@ -7,13 +7,10 @@ use Rattle.sap_restrict.specs.declared.guard.Admit.{Admit}
 use Rattle.sap_restrict.specs.declared.guard.Admit.TheVariants.{Kept, Broken}
 use Rattle.sap_restrict.specs.declared.which.Which.{Which}
 use Rattle.sap_restrict.specs.declared.which.Which.TheVariants.{Eq, In, InEv, Init, Lock, NotEq, NotIn}
+use Rattle.sap_term_map.specs.Values.{with_at}
 use Rattle.sap_terms.specs.Same.{same_tree}
 use Rattle.sap_terms.specs.Tree.{Tree}
 use Rattle.sap_terms.specs.declared.mem.Mem.{Mem}
-
--- the map, but that x has o
-abbrev pub with_at : (Tree → Option Tree) → Tree → Option Tree → Tree → Option Tree
-with_at st x o = λ y. if same_tree x y then o else st y
 
 -- it is this term
 abbrev pub is_the : Option Tree → Tree → Bool

@@ -89,14 +89,14 @@ pub record IsBefore (r : Running) (step : PStep) (b : Before) : Type 0 where
   pub cited : b.cited ≡ cited_at r.facts (cited_of step)
 
 -- these are what is kept of it
-pub record IsKept (r : Running) (facts : ℕ) (step : PStep) (stored : Option Term) (head sender : Option (Box Form)) (b : Before) : Type 0 where
+pub record IsKept (r : Running) (facts : ℕ) (cited : List Fact) (stored : Option Term) (head sender : Option (Box Form)) (b : Before) : Type 0 where
   pub threads : b.threads ≡ length r.threads
   pub entries : b.entries ≡ length r.known
   pub same_facts : b.facts ≡ facts
   pub same_head : b.head ≡ head
   pub same_sender : b.sender ≡ sender
   pub same_stored : b.stored ≡ stored
-  pub cited : b.cited ≡ cited_at r.facts (cited_of step)
+  pub same_cited : b.cited ≡ cited
 
 -- where the line leads from the one to the other, this is what it does
 abbrev pub Does : Running → Running → PStep → Doing → Type 0

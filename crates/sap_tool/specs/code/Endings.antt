@@ -1,53 +1,18 @@
 -- What a call ends with, step by step.
-use Rattle.std.specs.Prelude.{◌≡◌, ◌⊎◌, ℕ, List, [], Result, Ok, Err}
-use Rattle.sap_terms.specs.declared.mem.Mem.{Mem}
+use Rattle.std.specs.Prelude.{◌≡◌, ◌⊎◌, ℕ, List, [], MatchOption}
 use Rattle.sap_outside.specs.Outside.{Rose}
 use Rattle.sap_outside.specs.Seen.{SeenShelf}
-use Rattle.sap_outside.specs.declared.shelf.ShelfFault.{ShelfFault}
-use Rattle.sap_outside.specs.declared.shelf.ShelfFault.TheVariants as faults
+use Rattle.sap_answer.specs.Answer.{tells}
+use Rattle.sap_answer.specs.Endings.{answer_of}
+use Rattle.sap_answer.specs.declared.ending.Ending.{Ending}
+use Rattle.sap_answer.specs.declared.ending.Ending.TheVariants as ending
 use Rattle.sap_tool.specs.Call.{Call}
 use Rattle.sap_tool.specs.Commands.{Command, alone, and_run, how_read, Accepts, Allows}
-use Rattle.sap_tool.specs.Answers.{gives, tells, IsAnswer, IsAnswerTo, IsBegun, WasReadSo, WasGivenUpSo, usage_text, read_fault_text}
-use Rattle.sap_refusals.specs.declared.refusal.Refusal.{Refusal}
-use Rattle.sap_refusals.specs.declared.refusal.Refusal.TheVariants as refusal
-use Rattle.sap_tool.specs.declared.ending.Ending.{Ending}
-use Rattle.sap_tool.specs.declared.ending.Ending.TheVariants as ending
+use Rattle.sap_tool.specs.Answers.{IsAnswer, IsAnswerTo, IsBegun, WasReadSo, WasGivenUpSo}
 
 -- it is an answer that the call may have, or memory was wanting before there was one
 abbrev pub Ends : Call → Ending → Type 0
-Ends c (ending.Given text) = IsAnswer c (gives text)
-Ends c (ending.Help text) = IsAnswer c (gives text.now)
-Ends c ending.Usage = IsAnswer c (tells 3 usage_text)
-Ends c ending.Unread = IsAnswer c (tells 4 read_fault_text)
-Ends c (ending.File line) = IsAnswer c (tells 1 line)
-Ends c (ending.Run line) = IsAnswer c (tells 2 line)
-Ends c ending.Mem = IsBegun c
-
--- what a text of a run, or the line that refuses it, ends with
-abbrev pub ending_of : Result (List ℕ) Refusal → Ending
-ending_of (Ok text) = ending.Given text
-ending_of (Err (refusal.Told line)) = ending.Run line
-ending_of (Err refusal.Mem) = ending.Mem
-
--- what the line that refuses a file or theory ends with
-abbrev pub refused_ending : Refusal → Ending
-refused_ending (refusal.Told line) = ending.File line
-refused_ending refusal.Mem = ending.Mem
-
--- what a text of a file, or the line that refuses it, ends with
-abbrev pub file_ending_of : Result (List ℕ) Refusal → Ending
-file_ending_of (Ok text) = ending.Given text
-file_ending_of (Err r) = refused_ending r
-
--- what a text that refuses nothing ends with
-abbrev pub written_ending : Result (List ℕ) Mem → Ending
-written_ending (Ok text) = ending.Given text
-written_ending (Err e) = ending.Mem
-
--- what a fault of the shelf ends with
-abbrev pub unread_ending : ShelfFault → Ending
-unread_ending faults.Failed = ending.Unread
-unread_ending faults.Mem = ending.Mem
+Ends c e = MatchOption (answer_of e) (IsBegun c) (λ a. IsAnswer c a)
 
 -- what bytes that were fetched alone end with: a text, a refusal, or that memory was wanting
 abbrev pub EndsFile : Command → List ℕ → Ending → Type 0

@@ -1,8 +1,8 @@
 -- What a call ends with that asks for a sample, or for nothing.
 use Rattle.std.specs.Prelude.{◌≡◌, ℕ, List}
 use Rattle.sap_replay.specs.Sample.{IsSample, sample_text}
-use Rattle.sap_tool.specs.declared.ending.Ending.{Ending}
-use Rattle.sap_tool.specs.declared.ending.Ending.TheVariants as ending
+use Rattle.sap_answer.specs.declared.ending.Ending.{Ending}
+use Rattle.sap_answer.specs.declared.ending.Ending.TheVariants as ending
 
 -- what is told of the sample that the words ask for; where they ask for none, that; or memory was wanting
 abbrev pub EndsSample : List (List ℕ) → Ending → Type 0

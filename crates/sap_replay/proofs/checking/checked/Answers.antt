@@ -2,7 +2,7 @@ use Rattle.std.proofs.Common.{rules, ◌≡◌, Ok, subst}
 use Rattle.sap_run_texts.specs.declared.run.Kinds.TheVariants as kinds
 use Rattle.sap_outside.specs.RunPieces.{IsRunAnswer}
 use Rattle.sap_replay.specs.RunRefusals.{IsIllegalOfTheory}
-use Rattle.sap_refusals.specs.declared.refusal.Refusal.TheVariants as refusals
+use Rattle.sap_answer.specs.declared.refusal.Refusal.TheVariants as refusals
 use Rattle.sap_replay.proofs.Stopped.{no_run_stops, run_stops}
 use Rattle.sap_replay.proofs.checking.checked.Goals as goal
 

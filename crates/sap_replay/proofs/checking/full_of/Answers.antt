@@ -1,5 +1,5 @@
 use Rattle.std.proofs.Common.{rules, ◌≡◌, Ok}
-use Rattle.sap_refusals.specs.declared.refusal.Refusal.TheVariants as refusals
+use Rattle.sap_answer.specs.declared.refusal.Refusal.TheVariants as refusals
 use Rattle.sap_replay.proofs.Stopped.{theory_stops}
 use Rattle.sap_replay.proofs.checking.full_of.Goals as goal
 

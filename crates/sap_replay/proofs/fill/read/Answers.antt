@@ -1,6 +1,6 @@
 use Rattle.std.proofs.Common.{rules, ◌≡◌, Ok}
 use Rattle.sap_refusals.specs.ShortFaultTexts.{short_fault_text}
-use Rattle.sap_refusals.specs.declared.refusal.Refusal.TheVariants as refusals
+use Rattle.sap_answer.specs.declared.refusal.Refusal.TheVariants as refusals
 use Rattle.sap_replay.specs.ShortRuns.{no_run}
 use Rattle.sap_replay.proofs.ShortRefused.{short_stops, told_of}
 use Rattle.sap_replay.proofs.fill.read.Goals as goal

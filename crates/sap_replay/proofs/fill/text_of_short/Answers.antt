@@ -1,5 +1,5 @@
 use Rattle.std.proofs.Common.{rules, ◌≡◌, Ok, Err, ap}
-use Rattle.sap_refusals.specs.declared.refusal.Refusal.TheVariants as refusals
+use Rattle.sap_answer.specs.declared.refusal.Refusal.TheVariants as refusals
 use Rattle.sap_replay.proofs.ShortRefused.{fill_stops}
 use Rattle.sap_replay.proofs.fill.text_of_short.Goals as goal
 

@@ -1,6 +1,6 @@
 use Rattle.std.proofs.Common.{rules, ◌≡◌, Ok}
 use Rattle.sap_refusals.specs.RunFaultTexts.{json_fault_text}
-use Rattle.sap_refusals.specs.declared.refusal.Refusal.TheVariants as refusals
+use Rattle.sap_answer.specs.declared.refusal.Refusal.TheVariants as refusals
 use Rattle.sap_replay.specs.JsonRuns.{no_run}
 use Rattle.sap_replay.proofs.JsonRefused.{told_of}
 use Rattle.sap_replay.proofs.json.read.Goals as goal

@@ -1,7 +1,7 @@
 use Rattle.std.proofs.Common.{rules, ◌≡◌, Ok, arith}
 use Rattle.sap_outside.specs.declared.run_refusal.RunRefusal.TheVariants as refusal
 use Rattle.sap_refusals.specs.RunFaultTexts.{run_refusal_text}
-use Rattle.sap_refusals.specs.declared.refusal.Refusal.TheVariants as refusals
+use Rattle.sap_answer.specs.declared.refusal.Refusal.TheVariants as refusals
 use Rattle.sap_replay.specs.JsonRuns.{too_long}
 use Rattle.sap_replay.proofs.json.run_of_json.Goals as goal
 

@@ -1,5 +1,5 @@
 use Rattle.std.proofs.Common.{rules, ◌≡◌, Ok, refl}
-use Rattle.sap_refusals.specs.declared.refusal.Refusal.TheVariants as refusals
+use Rattle.sap_answer.specs.declared.refusal.Refusal.TheVariants as refusals
 use Rattle.sap_refusals.specs.Refusals.{fault_text}
 use Rattle.sap_replay.specs.AcceptedFile.{unread}
 use Rattle.sap_replay.proofs.reading.read.Goals as goal

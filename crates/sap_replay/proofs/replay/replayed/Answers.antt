@@ -3,7 +3,7 @@ use Rattle.sap_read.specs.Files.{told_by}
 use Rattle.sap_replay.specs.Tasks.{kinds_of}
 use Rattle.sap_outside.specs.RunPieces.{IsRunAnswer}
 use Rattle.sap_replay.specs.RunRefusals.{IsIllegal}
-use Rattle.sap_refusals.specs.declared.refusal.Refusal.TheVariants as refusals
+use Rattle.sap_answer.specs.declared.refusal.Refusal.TheVariants as refusals
 use Rattle.sap_replay.proofs.Stopped.{no_run_stops, run_stops}
 use Rattle.sap_replay.proofs.replay.replayed.Goals as goal
 

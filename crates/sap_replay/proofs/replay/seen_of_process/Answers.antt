@@ -1,6 +1,6 @@
 use Rattle.std.proofs.Common.{rules, ◌≡◌, Ok, Err, ap}
 use Rattle.sap_replay.specs.Replays.{of_process}
-use Rattle.sap_refusals.specs.declared.refusal.Refusal.TheVariants as refusals
+use Rattle.sap_answer.specs.declared.refusal.Refusal.TheVariants as refusals
 use Rattle.sap_replay.proofs.Stopped.{process_stops}
 use Rattle.sap_replay.proofs.replay.seen_of_process.Goals as goal
 

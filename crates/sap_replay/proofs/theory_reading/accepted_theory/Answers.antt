@@ -1,6 +1,6 @@
 use Rattle.std.proofs.Common.{rules, ◌≡◌, Ok, arith}
 use Rattle.std.specs.Prelude.{codes}
-use Rattle.sap_refusals.specs.declared.refusal.Refusal.TheVariants as refusals
+use Rattle.sap_answer.specs.declared.refusal.Refusal.TheVariants as refusals
 use Rattle.sap_replay.specs.AcceptedTheory.{too_long}
 use Rattle.sap_replay.proofs.theory_reading.accepted_theory.Goals as goal
 

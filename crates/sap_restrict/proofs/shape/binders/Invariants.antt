@@ -1,5 +1,5 @@
 use Rattle.std.proofs.Common.{◌≡◌, map, take}
-use Rattle.sap_restrict.specs.code.Shapes.{binder}
+use Rattle.sap_shapes.specs.Shapes.{binder}
 use Rattle.sap_restrict.proofs.shape.binders.Given as goal
 
 abbrev pub invariant-loop-k : goal.invariant-loop-k

@@ -1,6 +1,6 @@
 use Rattle.std.proofs.Common.{◌≡◌, [], ◌∷◌, map, take}
 use Rattle.sap_terms.specs.Tree.{variable}
-use Rattle.sap_restrict.specs.Standard.{any_message}
+use Rattle.sap_shapes.specs.Formulas.{any_message}
 use Rattle.sap_restrict.proofs.shape.terms.Given as goal
 
 abbrev pub invariant-loop-k : goal.invariant-loop-k

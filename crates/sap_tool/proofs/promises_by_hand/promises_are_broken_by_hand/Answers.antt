@@ -8,10 +8,11 @@ use Rattle.sap_pages.specs.Texts.{version_text}
 use Rattle.sap_tool.specs.Call.{Call, AskedFor}
 use Rattle.sap_tool.specs.Commands.{Command, to_json, spelled, IsUnknown}
 use Rattle.sap_tool.specs.ToldAtOnce.{IsToldAtOnce}
-use Rattle.sap_tool.specs.Answers.{Answer, gives, tells, IsAnswer, refused, run_refused, to_input, usage, unread, unread_run, Part, Broken, Starved, CutLast, IsLast, complete, cut, FailedOnFile, FailedOnRun, WasRunGivenUp, WasRunRead, IsBegun, asked_nothing, asked_file, asked_run, asked_both, for_file, write_fault_text, memory_text}
+use Rattle.sap_answer.specs.Answer.{Answer, gives, tells, Part, Broken, Starved, CutLast, IsLast, complete, cut, write_fault_text, memory_text}
+use Rattle.sap_tool.specs.Answers.{IsAnswer, refused, run_refused, to_input, usage, unread, unread_run, FailedOnFile, FailedOnRun, WasRunGivenUp, WasRunRead, IsBegun, asked_nothing, asked_file, asked_run, asked_both, for_file}
 use Rattle.sap_tool.specs.Promises as promised
 use Rattle.sap_tool.specs.PromisesExamples.{asking, version_words, json_words, unknown_words, got, failed, untouched}
-use Rattle.sap_tool.proofs.Appending.{usage_is}
+use Rattle.sap_tool.proofs.Endings.{usage_is}
 use Rattle.sap_tool.proofs.AtOnce.{OnePage}
 use Rattle.sap_tool.proofs.Asked.{one_command, differ}
 use Rattle.sap_tool.proofs.HandCalls.{given_told, Unread, of_file, of_run, unread_is, below_seven, version_asks, version_only, version_known, x_unknown}

@@ -8,7 +8,8 @@ use Rattle.sap_pages.specs.Texts.{version_text}
 use Rattle.sap_run_texts.specs.RunTexts.{told_neither, IsHeaded, process_head, rule_head}
 use Rattle.sap_replay.specs.RunRefusals.{no_run}
 use Rattle.sap_tool.specs.Commands.{to_json, run_alone}
-use Rattle.sap_tool.specs.Answers.{gives, tells, told_at_once, usage, unread_run, to_input, run_refused, complete, cut, asked_nothing, usage_text, read_fault_text}
+use Rattle.sap_answer.specs.Answer.{gives, tells, complete, cut, usage_text, read_fault_text}
+use Rattle.sap_tool.specs.Answers.{told_at_once, usage, unread_run, to_input, run_refused, asked_nothing}
 use Rattle.sap_tool.specs.Promises as promised
 use Rattle.sap_tool.specs.PromisesExamples.{version_words, json_words, unknown_words, opens, piece, got, failed, starved, untouched}
 use Rattle.sap_tool.proofs.HandCalls.{untold, version_told, version_only, version_known, json_known, json_untold, x_unknown}

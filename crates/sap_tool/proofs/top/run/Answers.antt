@@ -1,4 +1,5 @@
+use Rattle.sap_tool.proofs.Endings.{ended}
 use Rattle.sap_tool.proofs.top.run.Goals as goal
 
 pub returns : goal.returns
-returns g c = c.deliver.ensures _ (c.ending-ending.ensures _ _)
+returns g c = ended _ _ c.deliver.result (c.ending-ending.ensures _ _) c.deliver.ensures

@@ -1,0 +1,3 @@
+pub use Rattle.sap_formula.specs.Form
+pub mod Inline
+pub mod Laws

@@ -1,0 +1,6 @@
+//! The levels of texts that are put together.
+#![tactic(auto)]
+
+mod levels;
+
+pub use levels::fits;

@@ -1,6 +1,0 @@
-use Rattle.std.proofs.Common.{None}
-use Rattle.sap_restrict.proofs.Maps.{at_written}
-use Rattle.sap_restrict.proofs.term_map.TermMap.remove.Goals as goal
-
-pub returns : goal.returns
-returns c = at_written c.args.self.now.terms c.swap_remove.new.self c.args.key.now None c.swap_remove.ensures.updates.0
