@@ -1,5 +1,6 @@
 pub mod Escaped
 pub mod ThreadPaths
+pub mod ThreadPlaces
 pub mod ToldText
 pub mod Told
 pub mod ToldLaws

@@ -10,6 +10,8 @@ use Rattle.sap_terms.specs.declared.fact.Fact.{Fact}
 use Rattle.sap_terms.specs.declared.var.Sort.{Sort}
 use Rattle.sap_terms.specs.declared.var.Sort.TheVariants.{Msg, Fresh, Pub}
 use Rattle.sap_terms.specs.declared.var.Var.{Var}
+use Rattle.sap_process.specs.Action as action
+use Rattle.sap_process.specs.Proc.{Proc, nil, parallel, act}
 
 -- the lines of the run up to its first event
 abbrev pub first_lines : List PStep
@@ -71,3 +73,11 @@ a_of t = linear (codes "A") (t ∷ [])
 
 abbrev pub g_of : Tree → Fact
 g_of t = linear (codes "G") (t ∷ [])
+
+-- event A(t), and then nothing
+abbrev pub showing : Tree → Proc
+showing t = act (action.event (a_of t)) nil
+
+-- in(x); ( event A(x) | 0 )
+abbrev pub taking : Proc
+taking = act (action.input (variable x)) (parallel (showing (variable x)) nil)

@@ -3,7 +3,8 @@ use Rattle.std.specs.Prelude.{◌≡◌, ℕ, List}
 use Rattle.sap_lines.specs.Answers.{MatchesExactly}
 use Rattle.sap_lines.specs.Lines.{IsProcessLine}
 use Rattle.sap_lines.specs.Runs.{IsLegalProcessRun}
-use Rattle.sap_process.specs.Configuration.{Config}
+use Rattle.sap_process.specs.Configuration.{Config, Runs}
+use Rattle.sap_process.specs.Flaws.{IsWellFormed}
 use Rattle.sap_process.specs.Proc.{Proc}
 use Rattle.sap_process.specs.Ready.{IsReady}
 use Rattle.sap_runs.specs.Inner.{InnerAction}
@@ -14,6 +15,8 @@ use Rattle.sap_terms.specs.Signature.{Sig, HoldsBuiltins}
 use Rattle.sap_terms.specs.Trace.{Trace}
 use Rattle.sap_terms.specs.Tree.{Tree}
 use Rattle.sap_terms.specs.declared.fact.Fact.{Fact}
+use Rattle.sap_tell.specs.ThreadPaths.{path_of, thread_paths}
+use Rattle.sap_tell.specs.ThreadPlaces.{IsInstanceAt}
 use Rattle.sap_tell.specs.Told.{IsDoing, IsToldRun}
 
 -- what is told as a run of a process is a legal run of it within the limit, which leads there and shows this
@@ -46,3 +49,11 @@ LinesDoOneThing =
     → MatchesExactly g c es → IsProcessLine g HasFewNodes c es step inner label d fs
     → IsDoing g c es step inner label fs doing outcomes
     → IsDoing g c es step inner label fs other others → (doing ≡ other) × (outcomes ≡ others)
+
+-- behind told lines of a well-formed process each running thread is what stands at its path, with some variables replaced
+abbrev pub ThreadsStandAtTheirPaths : Type 0
+ThreadsStandAtTheirPaths =
+    (g : Sig) (p q : Proc) (lines : List PStep) (c : Config) (es : List Tree) (tr : Trace)
+    (marks : List Mark) (text : List ℕ) (t : ℕ) → HoldsBuiltins g → IsWellFormed g p
+    → IsToldRun g p lines c es tr marks text → Runs c t q
+    → IsInstanceAt p (path_of (thread_paths lines) t) q

@@ -12,5 +12,7 @@ pub use actor::{push_actor, push_thread};
 pub use escaped::push_escaped;
 pub use laws::{escaped_by_hand, escaped_stands_for_one};
 pub use thread_paths::ThreadPaths;
-pub use told_by_hand::{forms_told_by_hand, lines_told_by_hand, paths_by_hand, run_told_by_hand};
-pub use told_laws::{legal_runs_are_told, one_told_text};
+pub use told_by_hand::{
+    forms_told_by_hand, lines_told_by_hand, paths_by_hand, run_told_by_hand, thread_places_by_hand,
+};
+pub use told_laws::{legal_runs_are_told, one_told_text, threads_stand_at_their_paths};

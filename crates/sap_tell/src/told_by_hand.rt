@@ -17,8 +17,9 @@ ghost use Rattle.sap_terms.specs.Piles.{Pile, Takes};
 ghost use Rattle.sap_terms.specs.Signature.{Sig};
 ghost use Rattle.sap_terms.specs.Tree.{Tree, public, fresh, variable};
 ghost use Rattle.sap_tell.specs.ThreadPaths.{thread_paths, paths_from};
+ghost use Rattle.sap_tell.specs.ThreadPlaces.{IsInstanceAt};
 ghost use Rattle.sap_tell.specs.Told.{IsToldLine, IsToldRun};
-ghost use Rattle.sap_tell.specs.ToldExamples.{first_lines, first_paths, key, hi, signed, both, made, fresh_n, x, twice, two, on_key, greeting, f_of, a_of, g_of};
+ghost use Rattle.sap_tell.specs.ToldExamples.{first_lines, first_paths, key, hi, signed, both, made, fresh_n, x, twice, two, on_key, greeting, f_of, a_of, g_of, showing, taking};
 
 /// Where threads stand: behind the first lines of the run of the key server, behind branches that aren't taken, and behind look-ups.
 pub fn paths_by_hand()
@@ -29,6 +30,18 @@ pub fn paths_by_hand()
         ≡ (1 ∷ []) ∷ (2 ∷ 1 ∷ []) ∷ (1 ∷ 1 ∷ 1 ∷ 2 ∷ []) ∷ [] }
     ensures met { paths_from first_paths (line.Sync 0 1 ∷ line.Know 0 ∷ [])
         ≡ (1 ∷ 1 ∷ []) ∷ (2 ∷ 1 ∷ []) ∷ (1 ∷ 1 ∷ 1 ∷ []) ∷ [] }
+{}
+
+/// What stands at a path, with some variables replaced: in `in(x); ( event A(x) | 0 )` the event at 11, as it is and of 'hi'. It isn't
+/// there with another variable, since what is put in has none; nothing stands at 2, or at 111 an event; at 12 stands `0`.
+pub fn thread_places_by_hand()
+    ensures written { IsInstanceAt taking (1 ∷ 1 ∷ []) (showing (variable x)) }
+    ensures replaced { IsInstanceAt taking (1 ∷ 1 ∷ []) (showing hi) }
+    ensures at_root { IsInstanceAt taking [] taking }
+    ensures other_variable { ¬ IsInstanceAt taking (1 ∷ 1 ∷ []) (showing (variable fresh_n)) }
+    ensures other_form { ¬ IsInstanceAt taking (1 ∷ 2 ∷ []) (showing hi) }
+    ensures further { ¬ IsInstanceAt taking (1 ∷ 1 ∷ 1 ∷ []) (showing hi) }
+    ensures nowhere { (q : Proc) → ¬ IsInstanceAt taking (2 ∷ []) q }
 {}
 
 /// Lines of the run of the key server, told; and what isn't told of them: the number of an entry one off, no outcome, another
