@@ -34,3 +34,4 @@ pub mod PrintableItems
 pub mod OwnNames
 pub mod CausesByHand
 pub mod FilesByHand
+pub mod AsWritten

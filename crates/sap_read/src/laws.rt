@@ -10,7 +10,8 @@ ghost use Rattle.sap_grammar.specs.FactGrammar.{IsFact, fact_levels};
 ghost use Rattle.sap_read.specs.code.ProcessLaws.{ProcessLaws};
 ghost use Rattle.sap_macro.specs.Replaced as replaced;
 ghost use Rattle.sap_macro.specs.UpToNames.{AreSameUpToNames};
-ghost use Rattle.sap_macro.specs.Written.{Written};
+ghost use Rattle.sap_macro.specs.Written.{Definition, Written};
+ghost use Rattle.sap_read.specs.AsWritten.{FilesShowAsWritten, IsWrittenAs};
 ghost use Rattle.sap_read.specs.Causes.{cause_of};
 ghost use Rattle.sap_read.specs.FileProcess.{definitions_of, main_of, process_of, IsExpanded};
 ghost use Rattle.sap_process.specs.Proc.{Proc};
@@ -221,4 +222,29 @@ pub fn one_list_of_items()
     item_laws();
     process_laws();
     statement_laws();
+}
+
+/// A law: a file that is read is written with some definitions and one process; bytes are written so in one way; and what the process
+/// shows as it is written, where a use runs as its definition's instance, the process that is read shows, and nothing else, where each
+/// use in it names in its arguments what is in scope there.
+pub fn files_show_as_they_are_written()
+    ensures written { (z : List ℕ) (f : FileContent) → IsRead z (Ok f)
+        → ((ds : List Definition) × (p : Written) × IsWrittenAs z ds p) }
+    ensures one { (z : List ℕ) (ds es : List Definition) (p q : Written) → IsWrittenAs z ds p
+        → IsWrittenAs z es q → (ds ≡ es) × (p ≡ q) }
+    ensures shows { FilesShowAsWritten }
+{
+    item_laws();
+    process_laws();
+    statement_laws();
+    one_answer();
+    used_definitions_are_closed();
+    identifiers_hold_variables();
+    plain_bodies_are_in_order();
+    sorting_keeps_scopes();
+    sorts_are_exchanged();
+    what_is_written_runs_as_its_expansion();
+    unflawed_processes_are_closed();
+    labels_show_nothing();
+    sorting_keeps();
 }
