@@ -23,3 +23,10 @@ pub mod Sized
 pub mod Watched
 pub mod Replacing
 pub mod SameSizes
+pub mod Joined
+pub mod Sorting
+pub mod Exchange
+pub mod Definitions
+pub mod Closed
+pub mod Chosen
+pub mod Simulated

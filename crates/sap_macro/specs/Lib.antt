@@ -8,6 +8,7 @@ pub mod ExpansionExamples
 pub mod Replaced
 pub mod Instances
 pub mod UsesAreInstances
+pub mod WrittenRuns
 pub mod Sources
 pub mod Order
 pub mod Indexed

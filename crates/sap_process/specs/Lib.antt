@@ -12,6 +12,7 @@ pub mod Children
 pub mod Flaws
 pub mod Instance
 pub mod Sorted
+pub mod Head
 pub mod Configuration
 pub mod ProcessSteps
 pub mod StepExamples
