@@ -27,7 +27,7 @@ use Rattle.sap_macro.proofs.Names.{clash, in_head, in_tail}
 use Rattle.sap_macro.proofs.NewNames.{in_cases}
 use Rattle.sap_macro.proofs.Scopes.{Among, in_left, in_right, append_cases, behind_cases, behind_keeps, over_behind, renamed_is_new, renamed_is_taken, renamed_one, grown}
 use Rattle.sap_macro.proofs.Commuting.{IsSteady, own_new}
-use Rattle.sap_macro.proofs.Uses.{either_way, steady_with, put_instance, put_other, later_param, own_has, own_is_new}
+use Rattle.sap_macro.proofs.Uses.{AreClosed, either_way, steady_with, put_instance, put_other, later_param, own_has, own_is_new}
 use Rattle.sap_macro.proofs.Sorting.{as_bound, names_append, OwnOrKnown}
 use Rattle.sap_macro.proofs.Exchange.{Exchange, IsSortable, exchanged, over_new, same_taken}
 
@@ -37,11 +37,11 @@ bound_name : (o : Option Var) (v : Var) → var_names (tree_vars (as_bound o v))
 bound_name None v = refl
 bound_name (Some w) v = refl
 
-names_joined : (vs ws : List Var) → var_names (vs ++ ws) ≡ var_names vs ++ var_names ws
+pub names_joined : (vs ws : List Var) → var_names (vs ++ ws) ≡ var_names vs ++ var_names ws
 names_joined vs ws = names_append vs ws
 
 mutual
-  names_kept : (Z : List Var) (t : Tree) → var_names (tree_vars (instance (by_binder Z) t)) ≡ var_names (tree_vars t)
+  pub names_kept : (Z : List Var) (t : Tree) → var_names (tree_vars (instance (by_binder Z) t)) ≡ var_names (tree_vars t)
   names_kept Z (variable v) = bound_name (binder_of Z v.name) v
   names_kept Z (public n) = refl
   names_kept Z (fresh k) = refl
@@ -53,7 +53,7 @@ mutual
       names_joined (tree_vars (instance (by_binder Z) t)) (trees_vars (instances (by_binder Z) ts))
       ∙ ap₂ (λ (xs ys : List (List ℕ)). xs ++ ys) (names_kept Z t) (all_names_kept Z ts) ∙ sym (names_joined (tree_vars t) (trees_vars ts))
 
-args_kept : (Z : List Var) (ts : List Tree) → var_names (trees_vars (trees_of (map (instance (by_binder Z)) ts))) ≡ var_names (trees_vars (trees_of ts))
+pub args_kept : (Z : List Var) (ts : List Tree) → var_names (trees_vars (trees_of (map (instance (by_binder Z)) ts))) ≡ var_names (trees_vars (trees_of ts))
 args_kept Z [] = refl
 args_kept Z (t ∷ ts) =
     names_joined (tree_vars (instance (by_binder Z) t)) (trees_vars (trees_of (map (instance (by_binder Z)) ts)))
@@ -102,11 +102,11 @@ unfolding behind_names
 by_behind_names scope [] = refl
 by_behind_names scope (v ∷ vs) = by_behind_names (if is_known scope v.name then scope else (v.name ∷ scope)) vs
 
-same_bound : (scope : List (List ℕ)) (Z : List Var) (a : Action) → bound_by scope (binding_fresh (action_instance (by_binder Z) a)) ≡ bound_by scope a
+pub same_bound : (scope : List (List ℕ)) (Z : List Var) (a : Action) → bound_by scope (binding_fresh (action_instance (by_binder Z) a)) ≡ bound_by scope a
 same_bound scope Z a =
     by_bound_names scope (binding_vars (binding_fresh (action_instance (by_binder Z) a))) ∙ ap (bound_names scope) (action_kept Z a) ∙ sym (by_bound_names scope (binding_vars a))
 
-same_behind : (scope : List (List ℕ)) (Z : List Var) (a : Action) → behind scope (binding_fresh (action_instance (by_binder Z) a)) ≡ behind scope a
+pub same_behind : (scope : List (List ℕ)) (Z : List Var) (a : Action) → behind scope (binding_fresh (action_instance (by_binder Z) a)) ≡ behind scope a
 same_behind scope Z a =
     by_behind_names scope (binding_vars (binding_fresh (action_instance (by_binder Z) a))) ∙ ap (behind_names scope) (action_kept Z a) ∙ sym (by_behind_names scope (binding_vars a))
 
@@ -279,7 +279,7 @@ module _ (r : Choice) (b : List ℕ → List ℕ) (B : List (List ℕ))
 -- ---- a use of a definition, and of the sorted one
 
 -- parameters, as messages
-abbrev params_of : Definition → List Var
+abbrev pub params_of : Definition → List Var
 params_of d = map (λ n. named n Msg) d.params
 
 params_named : (ns : List (List ℕ)) → var_names (map (λ n. named n Msg) ns) ≡ ns
@@ -374,10 +374,6 @@ module _ (m n : Meaning) (steady : IsSteady m) (ex : Exchange m n) (d : Definiti
 
 -- ---- all definitions
 
-abbrev pub AreClosed : List Definition → Type 0
-AreClosed [] = Unit {0}
-AreClosed (d ∷ ds) = IsClosed d.params d.body × AreClosed ds
-
 exchange_after : (m n : Meaning) (ds : List Definition) → AreClosed ds → IsSteady m → Exchange m n → ((e : Definition) (k : Meaning) → IsSteady k → IsSteady (with_definition k e))
     → Exchange (meaning_after m ds) (meaning_after n (map sorted_definition ds)) × IsSteady (meaning_after m ds)
 exchange_after m n [] c s x t = (x, s)
@@ -385,10 +381,10 @@ exchange_after m n (d ∷ ds) c s x t = exchange_after (with_definition m d) (wi
 
 -- Setting sorts and expanding can be exchanged: where the definitions are closed, and the process is, the expansion with the sorts of its binders is the expansion of
 -- what is sorted, behind the sorted definitions.
-pub sorts_are_exchanged : (ds : List Definition) (p : Written) (taken : List (List ℕ)) → AreClosed ds → IsClosed [] p → ((x : List ℕ) → is_known (binders [] p) x ≡ true → is_known taken x ≡ true)
+pub sorts_are_exchanged_all : (ds : List Definition) (p : Written) (taken : List (List ℕ)) → AreClosed ds → IsClosed [] p → ((x : List ℕ) → is_known (binders [] p) x ≡ true → is_known taken x ≡ true)
     → with_sorts [] (expanded (meaning_of ds) unchanged same_name p taken).process
     ≡ (expanded (meaning_of (map sorted_definition ds)) unchanged same_name (sorted [] p) taken).process
-sorts_are_exchanged ds p taken c closed own_taken =
+sorts_are_exchanged_all ds p taken c closed own_taken =
     let begun : Exchange no_meaning no_meaning = record { same = λ f ts us z. refl; sorts = λ f ts z S o s. refl } in
     let steady : IsSteady no_meaning = record { same = λ f ts us z. refl; grows = λ f ts z x h. h } in
     let all = exchange_after no_meaning no_meaning ds c steady begun (λ e k s. steady_with k s e) in

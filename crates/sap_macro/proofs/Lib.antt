@@ -27,6 +27,7 @@ pub mod Joined
 pub mod Sorting
 pub mod Exchange
 pub mod Definitions
+pub mod SortedScopes
 pub mod Closed
-pub mod Chosen
+pub mod Continuing
 pub mod Simulated

@@ -12,6 +12,7 @@ mod index;
 mod laws;
 mod seeing;
 mod sizes;
+mod sorting_laws;
 mod source;
 mod standing;
 
@@ -26,4 +27,5 @@ pub use laws::{
 };
 pub use seeing::seen;
 pub use sizes::{Size, expanded_size};
+pub use sorting_laws::{sorting_keeps_scopes, sorts_are_exchanged};
 pub use source::{Doing, Source};
