@@ -28,5 +28,5 @@ pub mod Sorting
 pub mod Exchange
 pub mod Definitions
 pub mod Closed
-pub mod Chosen
+pub mod Continuing
 pub mod Simulated
