@@ -15,6 +15,7 @@ mod sizes;
 mod sorting_laws;
 mod source;
 mod standing;
+mod written_laws;
 
 pub use building::build;
 pub use by_hand::{equal_up_to_names_by_hand, expansions_by_hand, macro_causes_by_hand};
@@ -28,4 +29,5 @@ pub use laws::{
 pub use seeing::seen;
 pub use sizes::{Size, expanded_size};
 pub use sorting_laws::{sorting_keeps_scopes, sorts_are_exchanged};
+pub use written_laws::what_is_written_runs_as_its_expansion;
 pub use source::{Doing, Source};
