@@ -28,6 +28,9 @@ pub use laws::{
 };
 pub use seeing::seen;
 pub use sizes::{Size, expanded_size};
-pub use sorting_laws::{sorting_keeps_scopes, sorts_are_exchanged};
-pub use written_laws::what_is_written_runs_as_its_expansion;
+pub use sorting_laws::{
+    arguments_by_hand, plain_bodies_are_in_order, sorted_by_hand, sorting_keeps_scopes,
+    sorts_are_exchanged,
+};
 pub use source::{Doing, Source};
+pub use written_laws::what_is_written_runs_as_its_expansion;
