@@ -1,5 +1,5 @@
 -- Once names without parameters are replaced, names alone are used that have parameters.
-use Rattle.std.proofs.Common.{◌≡◌, ℕ, true, List, [], ◌∷◌, ◌⊎◌, inl, inr, ⊎_elim}
+use Rattle.std.proofs.Common.{◌≡◌, ℕ, true, List, [], ◌∷◌, ◌⊎◌, inl, inr, refl, sym, ap, subst, ⊎_elim}
 use Rattle.std.proofs.lemmas.Bool.{false≢true}
 use Rattle.std.specs.Str.{bytes_eq}
 use Rattle.sap_terms.specs.Tree.{Tree}
@@ -7,7 +7,7 @@ use Rattle.sap_terms.specs.Variables.{is_known}
 use Rattle.sap_macro.specs.Expansion.{Plain, plain, plain_after, plain_bodies, where_none, with_plain, with_uses}
 use Rattle.sap_macro.specs.Indexed.{defined}
 use Rattle.sap_macro.specs.Order.{AreInOrder, UsesOnly, where_some, with_parameters}
-use Rattle.sap_macro.specs.Written.{Written, call, Definition}
+use Rattle.sap_macro.specs.Written.{Written, nil, call, parallel, replicated, act, test, lookup, Definition}
 use Rattle.sap_terms.proofs.PlainLaws.Known.{one_name, two_names, in_tail, in_cases}
 use Rattle.sap_macro.proofs.Resolving.{more_known, uses_known}
 use Rattle.sap_macro.proofs.Scopes.{at_head}
@@ -64,3 +64,35 @@ order_stays known p (d ∷ ds) e h =
 
 pub plain_bodies_are_in_order : (names : List (List ℕ)) (ds : List Definition) → AreInOrder names ds → AreInOrder names (plain_bodies call ds)
 plain_bodies_are_in_order names ds h = order_stays names call ds (λ f ts k. k) h
+
+-- ---- and what is used is defined
+
+uses_wider : (xs ys : List (List ℕ)) → ((f : List ℕ) → is_known xs f ≡ true → is_known ys f ≡ true) → (p : Written) → UsesOnly xs p → UsesOnly ys p
+uses_wider xs ys i nil h = tt
+uses_wider xs ys i (call f ts) h = i f h
+uses_wider xs ys i (parallel p q) h = (uses_wider xs ys i p h.0, uses_wider xs ys i q h.1)
+uses_wider xs ys i (replicated p) h = uses_wider xs ys i p h
+uses_wider xs ys i (act a p) h = uses_wider xs ys i p h
+uses_wider xs ys i (test t u p q) h = (uses_wider xs ys i p h.0, uses_wider xs ys i q h.1)
+uses_wider xs ys i (lookup t x p q) h = (uses_wider xs ys i p h.0, uses_wider xs ys i q h.1)
+
+some_cases : (xs : List (List ℕ)) (n : List ℕ) (names : List (List ℕ)) (f : List ℕ) → is_known (where_some xs n names) f ≡ true → (is_known names f ≡ true) ⊎ (n ≡ f)
+some_cases [] n names f h = inl h
+some_cases (x ∷ xs) n names f h = ⊎_elim (λ same. inr same) (λ l. inl l) (in_cases f n names h)
+
+with_parameters_defined : (names : List (List ℕ)) (ds : List Definition) (f : List ℕ) → is_known (with_parameters names ds) f ≡ true
+    → (is_known names f ≡ true) ⊎ (is_known (defined ds) f ≡ true)
+with_parameters_defined names [] f h = inl h
+with_parameters_defined names (d ∷ ds) f h =
+    ⊎_elim (λ l. ⊎_elim (λ k. inl k) (λ same. inr (at_head f d.name (defined ds) same)) (some_cases d.params d.name names f l)) (λ l. inr (in_tail f d.name (defined ds) l))
+    (with_parameters_defined (where_some d.params d.name names) ds f h)
+
+same_names : (p : Plain) (ds : List Definition) → defined (plain_bodies p ds) ≡ defined ds
+same_names p [] = refl
+same_names p (d ∷ ds) = ap (λ (ns : List (List ℕ)). d.name ∷ ns) (same_names (with_plain p d) ds)
+
+pub plain_uses_are_defined : (ds : List Definition) (p : Written) → AreInOrder [] ds → UsesOnly (defined ds) p → UsesOnly (defined (plain_bodies call ds)) (plain ds p)
+plain_uses_are_defined ds p order h =
+    subst (λ ns. UsesOnly ns (plain ds p)) (sym (same_names call ds))
+    (uses_wider (with_parameters [] ds) (defined ds) (λ f k. ⊎_elim (λ l. absurd (false≢true l)) (λ l. l) (with_parameters_defined [] ds f k)) (plain ds p)
+    (plain_uses_have_parameters ds p order h))

@@ -11,6 +11,7 @@ use Rattle.sap_process.specs.Sites as sites
 use Rattle.sap_process.specs.Sites.{var_names, message_var}
 use Rattle.sap_process.specs.Sorted.{by_binder, binding_fresh, with_sorts}
 use Rattle.sap_macro.specs.Expansion.{Expanded, behind, expanded, meaning_of, no_meaning, same_name, unchanged}
+use Rattle.sap_macro.specs.Indexed.{defined}
 use Rattle.sap_macro.specs.Instances.{AreClosedAmong, AreTaken, BindsNew, IsClosed, IsOverScope, used_vars}
 use Rattle.sap_macro.specs.Order.{AreInOrder, UsesOnly}
 use Rattle.sap_macro.specs.Written.{Written, nil, call, parallel, replicated, act, test, lookup, Definition}
@@ -99,6 +100,10 @@ definitions_kept names (d ∷ ds) h =
 pub order_kept : (names : List (List ℕ)) (ds : List Definition) → AreInOrder names ds → AreInOrder names (map sorted_definition ds)
 order_kept names [] h = tt
 order_kept names (d ∷ ds) h = (h.0, (uses_kept names (params_of d) d.body h.1.0, order_kept (d.name ∷ names) ds h.1.1))
+
+pub names_stay : (ds : List Definition) → defined (map sorted_definition ds) ≡ defined ds
+names_stay [] = refl
+names_stay (d ∷ ds) = ap (λ (ns : List (List ℕ)). d.name ∷ ns) (names_stay ds)
 
 -- ---- where only definitions are closed that are used
 

@@ -3,8 +3,9 @@ ghost use Rattle.std.specs.Prelude.{◌≡◌, ℕ, List, [], ◌∷◌, codes, 
 ghost use Rattle.sap_terms.specs.declared.var.Sort.TheVariants.{Fresh, Msg};
 ghost use Rattle.sap_terms.specs.declared.var.Var.{Var};
 ghost use Rattle.sap_process.specs.Sorted.{with_sorts};
-ghost use Rattle.sap_macro.specs.Expansion.{expanded, meaning_of, plain_bodies, same_name, unchanged};
+ghost use Rattle.sap_macro.specs.Expansion.{expanded, meaning_of, plain, plain_bodies, same_name, unchanged};
 ghost use Rattle.sap_macro.specs.ExpansionExamples.{taking};
+ghost use Rattle.sap_macro.specs.Indexed.{defined};
 ghost use Rattle.sap_macro.specs.Instances.{AreClosedAmong, AreTaken, IsClosed};
 ghost use Rattle.sap_macro.specs.NameExamples.{both, x, fresh_x};
 ghost use Rattle.sap_macro.specs.Order.{AreInOrder, UsesOnly};
@@ -22,18 +23,22 @@ pub fn sorts_are_exchanged()
 {}
 
 /// A law: what is written with the sorts of its binders, whatever is in scope there, is closed where it was, uses what it used, and
-/// binds what it bound; so do definitions.
+/// binds what it bound; so do definitions, which keep their names.
 pub fn sorting_keeps_scopes()
     ensures closed { (scope : List (List ℕ)) (bound : List Var) (p : Written) → IsClosed scope p → IsClosed scope (sorted bound p) }
     ensures uses { (names : List (List ℕ)) (bound : List Var) (p : Written) → UsesOnly names p → UsesOnly names (sorted bound p) }
     ensures taken { (taken scope : List (List ℕ)) (bound : List Var) (p : Written) → AreTaken taken scope p → AreTaken taken scope (sorted bound p) }
     ensures definitions { (names : List (List ℕ)) (ds : List Definition) → AreClosedAmong names ds → AreClosedAmong names (map sorted_definition ds) }
     ensures order { (names : List (List ℕ)) (ds : List Definition) → AreInOrder names ds → AreInOrder names (map sorted_definition ds) }
+    ensures names { (ds : List Definition) → defined (map sorted_definition ds) ≡ defined ds }
 {}
 
-/// A law: definitions in order are in order with plain bodies too.
+/// A law: definitions in order are in order with plain bodies too; and what uses names alone that they define does so once names
+/// without parameters are replaced.
 pub fn plain_bodies_are_in_order()
-    ensures { (names : List (List ℕ)) (ds : List Definition) → AreInOrder names ds → AreInOrder names (plain_bodies call ds) }
+    ensures order { (names : List (List ℕ)) (ds : List Definition) → AreInOrder names ds → AreInOrder names (plain_bodies call ds) }
+    ensures uses { (ds : List Definition) (p : Written) → AreInOrder [] ds → UsesOnly (defined ds) p
+        → UsesOnly (defined (plain_bodies call ds)) (plain ds p) }
 {}
 
 /// A law: sorts by hand. The first occurrence of a name in a pattern is its binder, and each later one gets its sort; `new` binds a
