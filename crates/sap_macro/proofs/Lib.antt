@@ -29,4 +29,5 @@ pub mod Exchange
 pub mod Definitions
 pub mod Closed
 pub mod Continuing
-pub mod Simulated
+pub mod OrderedMeanings
+pub mod RunningTrees
