@@ -31,3 +31,4 @@ pub mod Closed
 pub mod Continuing
 pub mod OrderedMeanings
 pub mod RunningTrees
+pub mod WrittenSteps
