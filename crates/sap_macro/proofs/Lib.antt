@@ -32,3 +32,4 @@ pub mod Continuing
 pub mod OrderedMeanings
 pub mod RunningTrees
 pub mod WrittenSteps
+pub mod WrittenTraces

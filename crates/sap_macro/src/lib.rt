@@ -27,5 +27,5 @@ pub use laws::{
 };
 pub use seeing::seen;
 pub use sizes::{Size, expanded_size};
-pub use written_laws::what_is_written_runs_as_its_expansion;
+pub use written_laws::written_traces_are_expansions;
 pub use source::{Doing, Source};
