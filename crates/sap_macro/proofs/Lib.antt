@@ -1,4 +1,5 @@
 pub mod ByHand
+pub mod WrittenByHand
 pub mod Names
 pub mod Moving
 pub mod Choosing

@@ -1,5 +1,5 @@
 -- What uses mean behind definitions in order, of which those of some names are closed.
-use Rattle.std.proofs.Common.{◌≡◌, ℕ, true, false, List, [], ◌∷◌, refl, sym, ap, ◌∙◌, subst, ⊎_elim, arith}
+use Rattle.std.proofs.Common.{◌≡◌, ℕ, true, false, List, [], ◌∷◌, refl, sym, ap, ◌∙◌, subst, ⊎_elim}
 use Rattle.std.specs.Prelude.{Contains, if◌then◌else◌}
 use Rattle.std.specs.Str.{bytes_eq}
 use Rattle.sap_terms.specs.Choice.{Choice}
@@ -15,7 +15,7 @@ use Rattle.sap_macro.specs.Indexed.{defined}
 use Rattle.sap_macro.specs.Instances.{AreClosedAmong, IsClosed, written_instance}
 use Rattle.sap_macro.specs.Order.{AreInOrder, UsesOnly}
 use Rattle.sap_macro.specs.Written.{Written, Definition}
-use Rattle.sap_terms.proofs.PlainLaws.Items.{cons_cases}
+use Rattle.sap_terms.proofs.PlainLaws.Items.{cons_cases, none_contained}
 use Rattle.sap_terms.proofs.PlainLaws.Known.{in_head, not_in, own_name}
 use Rattle.sap_macro.proofs.Commuting.{IsSteady}
 use Rattle.sap_macro.proofs.Continuing.{instance_of_expansion}
@@ -35,7 +35,7 @@ meaning_kept (d ∷ ds) m f ts taken h =
 -- the name of a definition means its body, all of whose names are understood
 means_after : (ds : List Definition) (known : List (List ℕ)) (m : Meaning) → AreInOrder known ds → (d : Definition) → Contains ds d → (ts : List Tree) (taken : List (List ℕ))
     → meaning_after m ds d.name ts taken ≡ entered (meaning_after m ds) d ts taken
-means_after [] known m h d c ts taken = let lt = c.1 in absurd (omega arith)
+means_after [] known m h d c ts taken = absurd (none_contained c)
 means_after (e ∷ es) known m h d c ts taken =
     ⊎_elim
     (λ same. subst (λ (z : Definition). meaning_after m (e ∷ es) z.name ts taken ≡ entered (meaning_after m (e ∷ es)) z ts taken) same
@@ -60,7 +60,7 @@ steady_of ds = steady_after ds no_meaning (record { same = λ f ts us taken. ref
 -- a definition of one of the names is closed, and uses these names alone
 pub closed_body : (names : List (List ℕ)) (ds : List Definition) → AreClosedAmong names ds → (d : Definition) → Contains ds d → is_known names d.name ≡ true
     → IsClosed d.params d.body × UsesOnly names d.body
-closed_body names [] all d c k = let lt = c.1 in absurd (omega arith)
+closed_body names [] all d c k = absurd (none_contained c)
 closed_body names (e ∷ es) all d c k =
     ⊎_elim (λ same. subst (λ (z : Definition). is_known names z.name ≡ true → IsClosed z.params z.body × UsesOnly names z.body) same all.0 k)
     (λ l. closed_body names es all.1 d l k) (cons_cases e es d c)

@@ -81,6 +81,7 @@ module _ (d : Definition) (ts : List Tree) (closed : IsClosed d.params d.body) (
         subst (λ ns. is_known ns x ≡ true)
         (binders_rest (put d.params ts unchanged) d.params (λ v k. put_ground d.params ts v known k) (λ v k. put_other d.params ts unchanged v k) d.params [] d.body params_split closed) h;
   }
+
 -- definitions in order, of which those of these names are closed, and a signature
 pub record Setting : Type 0 where
   pub names : List (List ℕ)
@@ -236,7 +237,7 @@ module _ (S : Setting) where
   chosen_rest σ vs q taken messages closed uses own all_taken =
       let next = written_instance (chosen σ vs) q in
       let ready : IsReady next taken =
-          record { closed = closed_here σ vs messages q taken closed own; uses = instance_uses names (chosen σ vs) q uses; own = taken_here σ vs messages q taken closed own all_taken } in
+      record { closed = closed_here σ vs messages q taken closed own; uses = instance_uses names (chosen σ vs) q uses; own = taken_here σ vs messages q taken closed own all_taken } in
       subst (λ z. RunsAs next z) (instance_among names ds all σ vs messages q taken uses closed own) (itself_expanded next taken ready)
 
   -- names of a pattern that nothing above binds are taken
@@ -255,7 +256,7 @@ module _ (S : Setting) where
   found_rest m y v p q taken ground r =
       let rest = binders (v.name ∷ []) p ++ binders [] q in
       let own : Among (var_names (v ∷ [])) taken =
-          λ z i. ⊎_elim (λ j. subst (λ n. is_known taken n ≡ true) j (r.own.holds v.name (in_head v.name rest))) (λ j. absurd (false≢true j)) (in_cases z v.name [] i) in
+      λ z i. ⊎_elim (λ j. subst (λ n. is_known taken n ≡ true) j (r.own.holds v.name (in_head v.name rest))) (λ j. absurd (false≢true j)) (in_cases z v.name [] i) in
       chosen_rest (λ z. y) (v ∷ []) p taken (λ z. ground) r.closed.1.1.0 r.uses.0 own
       (record { holds = λ z i. r.own.holds z (in_tail z v.name rest (in_left (binders (v.name ∷ []) p) (binders [] q) z i)) })
 

@@ -9,6 +9,7 @@ pub mod Replaced
 pub mod Instances
 pub mod UsesAreInstances
 pub mod WrittenRuns
+pub mod WrittenExamples
 pub mod Sources
 pub mod Order
 pub mod Indexed

@@ -17,7 +17,9 @@ mod standing;
 mod written_laws;
 
 pub use building::build;
-pub use by_hand::{equal_up_to_names_by_hand, expansions_by_hand, macro_causes_by_hand};
+pub use by_hand::{
+    equal_up_to_names_by_hand, expansions_by_hand, macro_causes_by_hand, written_runs_by_hand,
+};
 pub use definition::{Definition, DefinitionList};
 pub use index::{Index, definition_named, index_of};
 pub use laws::{
@@ -27,5 +29,5 @@ pub use laws::{
 };
 pub use seeing::seen;
 pub use sizes::{Size, expanded_size};
-pub use written_laws::written_traces_are_expansions;
 pub use source::{Doing, Source};
+pub use written_laws::written_traces_are_expansions;
