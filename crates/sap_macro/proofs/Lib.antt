@@ -29,4 +29,5 @@ pub mod Exchange
 pub mod Definitions
 pub mod Closed
 pub mod Chosen
+pub mod WrittenHeads
 pub mod Simulated

@@ -14,6 +14,7 @@ mod seeing;
 mod sizes;
 mod source;
 mod standing;
+mod written_laws;
 
 pub use building::build;
 pub use by_hand::{equal_up_to_names_by_hand, expansions_by_hand, macro_causes_by_hand};
@@ -27,3 +28,4 @@ pub use laws::{
 pub use seeing::seen;
 pub use sizes::{Size, expanded_size};
 pub use source::{Doing, Source};
+pub use written_laws::written_heads_are_one;
