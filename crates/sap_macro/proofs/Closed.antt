@@ -14,7 +14,7 @@ use Rattle.sap_process.specs.Instance.{action_instance}
 use Rattle.sap_macro.specs.Expansion.{behind, binders, binding_vars, bound_in, scope_behind}
 use Rattle.sap_macro.specs.Instances.{BindsNew, IsClosed, IsOverScope, used_vars, written_instance}
 use Rattle.sap_macro.specs.Written.{Written, nil, call, parallel, replicated, act, test, lookup}
-use Rattle.sap_macro.proofs.Names.{clash, in_tail}
+use Rattle.sap_terms.proofs.PlainLaws.Known.{clash, in_tail}
 use Rattle.sap_macro.proofs.Sorting.{put_vars, put_append, vars_put}
 use Rattle.sap_macro.proofs.Exchange.{facts_put, facts_joined}
 

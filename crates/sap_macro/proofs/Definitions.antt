@@ -23,8 +23,7 @@ use Rattle.sap_macro.specs.NewNames.{once, renamed, taken_after}
 use Rattle.sap_macro.specs.UpToNames.{named}
 use Rattle.sap_macro.specs.Written.{Written, nil, call, parallel, replicated, act, test, lookup, Definition}
 use Rattle.sap_macro.specs.WrittenRuns.{sorted, sorted_definition}
-use Rattle.sap_macro.proofs.Names.{clash, in_head, in_tail}
-use Rattle.sap_macro.proofs.NewNames.{in_cases}
+use Rattle.sap_terms.proofs.PlainLaws.Known.{clash, in_cases, in_head, in_tail}
 use Rattle.sap_macro.proofs.Scopes.{Among, in_left, in_right, append_cases, behind_cases, behind_keeps, over_behind, renamed_is_new, renamed_is_taken, renamed_one, grown}
 use Rattle.sap_macro.proofs.Commuting.{IsSteady, own_new}
 use Rattle.sap_macro.proofs.Uses.{either_way, steady_with, put_instance, put_other, later_param, own_has, own_is_new}

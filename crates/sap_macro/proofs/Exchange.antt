@@ -20,8 +20,7 @@ use Rattle.sap_macro.specs.Instances.{IsOverScope, used_vars}
 use Rattle.sap_macro.specs.UpToNames.{named, fact}
 use Rattle.sap_macro.specs.Written.{Written, nil, call, parallel, replicated, act, test, lookup}
 use Rattle.sap_macro.specs.WrittenRuns.{sorted}
-use Rattle.sap_macro.proofs.Names.{in_head}
-use Rattle.sap_macro.proofs.NewNames.{in_cases}
+use Rattle.sap_terms.proofs.PlainLaws.Known.{in_cases, in_head}
 use Rattle.sap_macro.proofs.Scopes.{Among, in_left, in_right, append_cases, over_left, over_right}
 use Rattle.sap_macro.proofs.Commuting.{IsSteady, taken_grows, facts_append}
 use Rattle.sap_macro.proofs.Sorting.{renaming, put_vars, put_append, vars_put, names_append, append_none, Fit, OwnOrKnown, same_new, fit_behind, fit_more, new_own, AreLinkedSorts, linked_behind, agree, each_agrees, facts_agree}

@@ -5,8 +5,8 @@ use Rattle.sap_terms.specs.Variables.{is_known}
 use Rattle.sap_terms.specs.declared.fact.Fact.{Fact}
 use Rattle.sap_process.specs.Action.{Action}
 use Rattle.sap_process.specs.Proc.{Proc}
+use Rattle.sap_terms.proofs.PlainLaws.Known.{clash, in_head, in_tail}
 use Rattle.sap_macro.specs.UpToNames.{Pair, pair_of, lefts, rights, HaveOneBinder, here, above, AreAlikeTerms, both_variable, both_public, both_fresh, both_apply, AreAlikeLists, both_none, both_more, AreAlikePatterns, old_name, new_name, one_public, one_fresh, one_symbol, AreAlikeRows, row_ends, row_goes_on, AreAlikeFacts, facts_end, facts_go_on, AreAlikeActions, both_new, both_out, both_send, both_input, both_receive, both_event, both_insert, both_delete, both_lock, both_unlock, both_embedded, AreAlike, both_nil, both_parallel, both_replicated, both_act, both_test, both_lookup}
-use Rattle.sap_macro.proofs.Names.{clash, in_head, in_tail}
 
 -- the first two lists of pairs, one behind the other
 pub data AreJoined : List Pair → List Pair → List Pair → Type 0 where

@@ -28,6 +28,6 @@ pub mod Sorting
 pub mod Exchange
 pub mod Definitions
 pub mod Closed
-pub mod Chosen
+pub mod Continuing
 pub mod WrittenHeads
 pub mod Simulated

@@ -21,6 +21,7 @@ use Rattle.sap_process.specs.Instance.{process_instance}
 use Rattle.sap_process.specs.Proc as whole
 use Rattle.sap_process.specs.Proc.{Proc}
 use Rattle.sap_process.specs.ProcessSteps.{ProcessStep, ends, splits, copies, outputs, makes_name, inputs, finds, Fits, chosen}
+use Rattle.sap_terms.proofs.PlainLaws.Known.{in_cases, in_head, in_tail}
 use Rattle.sap_macro.specs.Expansion.{Expanded, entered, expanded, meaning_of, same_name, unchanged, put, binders, binding, behind, bound_by, bound_in, scope_behind}
 use Rattle.sap_macro.specs.Instances.{IsOverScope, IsClosed, AreClosedAmong, AreTaken, Keeps, instance_by, written_instance}
 use Rattle.sap_macro.specs.Order.{UsesOnly}
@@ -30,14 +31,12 @@ use Rattle.sap_macro.specs.WrittenRuns.{StartsWith, itself, use_of, written_of, 
 use Rattle.sap_terms.specs.AdversaryFacts.{k_fact}
 use Rattle.sap_process.specs.Sites.{var_names}
 use Rattle.sap_macro.proofs.Kept.{each_kept, action_kept, kept}
-use Rattle.sap_macro.proofs.Names.{in_head, in_tail}
-use Rattle.sap_macro.proofs.NewNames.{in_cases}
 use Rattle.sap_macro.proofs.Scopes.{Among, behind_cases, in_left, in_right, over_behind}
 use Rattle.sap_macro.proofs.Commuting.{Commutes, IsSteady, taken_grows}
 use Rattle.sap_macro.proofs.Uses.{either_way, later_param, put_other}
 use Rattle.sap_macro.proofs.Definitions.{known_of}
 use Rattle.sap_macro.proofs.Closed.{Split, binders_rest, closed_rest}
-use Rattle.sap_macro.proofs.Chosen.{closed_here, instance_of_expansion, taken_here}
+use Rattle.sap_macro.proofs.Continuing.{closed_here, instance_of_expansion, taken_here}
 use Rattle.sap_macro.proofs.Swapped.{other_side}
 use Rattle.sap_macro.proofs.Joined.{one_behind_other}
 use Rattle.sap_macro.proofs.OtherDefinitions.{expansions_among_are_one, uses_among_are_instances}

@@ -14,10 +14,9 @@ use Rattle.sap_terms.specs.Variables.{is_known, tree_vars, trees_vars, facts_var
 use Rattle.sap_process.specs.Sites.{var_names}
 use Rattle.sap_process.specs.Flaws.{binder_of}
 use Rattle.sap_process.specs.Sorted.{by_binder}
+use Rattle.sap_terms.proofs.PlainLaws.Known.{apart, clash, in_cases, in_head, not_in, one_name, own_name, two_names}
 use Rattle.sap_macro.specs.Instances.{IsOverScope}
 use Rattle.sap_macro.specs.UpToNames.{named, fact}
-use Rattle.sap_macro.proofs.Names.{own_name, one_name, clash, apart, not_in, in_head, two_names}
-use Rattle.sap_macro.proofs.NewNames.{in_cases}
 use Rattle.sap_macro.proofs.Scopes.{in_left, in_right, append_cases, over_left, over_right}
 
 pub append_none : {A : Type 0} (xs : List A) → xs ++ [] ≡ xs

@@ -27,5 +27,6 @@ pub use laws::{
 };
 pub use seeing::seen;
 pub use sizes::{Size, expanded_size};
+pub use written_laws::what_is_written_runs_as_its_expansion;
 pub use source::{Doing, Source};
 pub use written_laws::written_heads_are_one;

@@ -17,8 +17,7 @@ use Rattle.sap_macro.specs.Expansion.{Expanded, Meaning, binders, expanded, same
 use Rattle.sap_macro.specs.Instances.{AreTaken, IsClosed, Keeps, written_instance}
 use Rattle.sap_macro.specs.UpToNames.{named}
 use Rattle.sap_macro.specs.Written.{Written}
-use Rattle.sap_macro.proofs.Names.{clash, not_in, two_names}
-use Rattle.sap_macro.proofs.NewNames.{in_cases}
+use Rattle.sap_terms.proofs.PlainLaws.Known.{clash, in_cases, not_in, two_names}
 use Rattle.sap_macro.proofs.Scopes.{Among, behind_cases, binder_is_new, over_behind}
 use Rattle.sap_macro.proofs.Commuting.{IsSteady, Commutes, commuted}
 use Rattle.sap_macro.proofs.Uses.{at_once}
