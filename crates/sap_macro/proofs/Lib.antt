@@ -31,3 +31,4 @@ pub mod Closed
 pub mod Continuing
 pub mod WrittenHeads
 pub mod Simulated
+pub mod WrittenBack

@@ -189,7 +189,7 @@ module _ (names : List (List ℕ)) (ds : List Definition) (all : AreClosedAmong 
     goes_on_as _ _ (one_more h l) zero x o u r = one_more r l
     goes_on_as _ _ (one_more {os = os} {us = us} h l) (suc t) x o u r = one_more h (goes_on_as os us l t x o u r)
 
-    spawned : (os : List (Option Written)) (us : List (Option Proc)) → RunAsThreads os us → (w : Written) (p : Proc) → RunsAs w p → RunAsThreads (os ++ Some w ∷ []) (us ++ Some p ∷ [])
+    pub spawned : (os : List (Option Written)) (us : List (Option Proc)) → RunAsThreads os us → (w : Written) (p : Proc) → RunsAs w p → RunAsThreads (os ++ Some w ∷ []) (us ++ Some p ∷ [])
     spawned _ _ no_more w p r = one_more (both_go r) no_more
     spawned _ _ (one_more {os = os} {us = us} h l) w p r = one_more h (spawned os us l w p r)
 
@@ -198,7 +198,7 @@ module _ (names : List (List ℕ)) (ds : List Definition) (all : AreClosedAmong 
     alike_then _ _ _ (both_go {w = w} {p = p} r) (both_run {q = q} h) =
         both_go (record { closed = r.closed; uses = r.uses; taken = r.taken; are_taken = r.are_taken; alike = one_behind_other (tree_of_written w r.taken) p q r.alike h })
 
-    all_then : (os : List (Option Written)) (us vs : List (Option Proc)) → RunAsThreads os us → AlikeThreads us vs → RunAsThreads os vs
+    pub all_then : (os : List (Option Written)) (us vs : List (Option Proc)) → RunAsThreads os us → AlikeThreads us vs → RunAsThreads os vs
     all_then _ _ _ no_more no_thread = no_more
     all_then _ _ _ (one_more {o = o} {u = u} {os = os} {us = us} h l) (one_thread {u = v} {us = vs} k m) = one_more (alike_then o u v h k) (all_then os us vs l m)
 
