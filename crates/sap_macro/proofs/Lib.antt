@@ -29,6 +29,7 @@ pub mod Exchange
 pub mod Definitions
 pub mod Closed
 pub mod Continuing
+pub mod OrderedMeanings
+pub mod RunningTrees
 pub mod WrittenHeads
-pub mod Simulated
 pub mod WrittenBack

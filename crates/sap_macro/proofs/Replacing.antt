@@ -23,7 +23,7 @@ use Rattle.sap_macro.proofs.Resolving.{apart_from, meaning_stays, plain_stays, r
 use Rattle.sap_macro.proofs.Kept.{action_kept, kept}
 
 -- a head without arguments to put
-pub binding_kept : (a : Action) → binding same_name (action_instance unchanged a) ≡ a
+binding_kept : (a : Action) → binding same_name (action_instance unchanged a) ≡ a
 binding_kept a = ap (binding same_name) (action_kept a) ∙ same a where
   same : (a : Action) → binding same_name a ≡ a
   same (new x) = refl

@@ -1,7 +1,5 @@
 -- Each step of the tree that what is written runs as is a step of what is written, and so is each run.
-use Rattle.std.proofs.Common.{◌≡◌, ℕ, zero, suc, true, false, List, [], ◌∷◌, ◌++◌, Option, Some, None, slice_get, slice_set, refl, sym, ap, ◌∙◌, subst, ⊎_elim}
-use Rattle.std.specs.Prelude.{Contains}
-use Rattle.std.proofs.lemmas.Bool.{false≢true}
+use Rattle.std.proofs.Common.{◌≡◌, ℕ, zero, suc, true, false, List, [], ◌∷◌, ◌++◌, Option, Some, None, slice_get, slice_set, refl, subst}
 use Rattle.sap_terms.specs.AdversaryFacts.{k_fact}
 use Rattle.sap_terms.specs.Choice.{Choice, instance}
 use Rattle.sap_terms.specs.Equal.{IsTheoryEqual}
@@ -11,58 +9,34 @@ use Rattle.sap_terms.specs.Message.{IsMessageChoice}
 use Rattle.sap_terms.specs.Modulo.{instance_facts, IsFormOfFact, AreEqualFacts, AreFormsOfFacts}
 use Rattle.sap_terms.specs.Normal.{IsNormalForm}
 use Rattle.sap_terms.specs.Piles.{Pile, Takes, adds}
-use Rattle.sap_terms.specs.Signature.{Sig}
 use Rattle.sap_terms.specs.Trace.{Trace}
 use Rattle.sap_terms.specs.Tree.{Tree, fresh}
 use Rattle.sap_terms.specs.Variables.{is_known, tree_vars, facts_vars}
 use Rattle.sap_terms.specs.declared.fact.Fact.{Fact}
 use Rattle.sap_terms.specs.declared.var.Var.{Var}
-use Rattle.sap_process.specs.Action as action
 use Rattle.sap_process.specs.Action.{Action, new, out, send, input, receive, event, insert, delete, lock, unlock, embedded}
-use Rattle.sap_process.specs.Configuration.{Config, ConfigOf, Runs, initial, becomes, spawns, makes, owns, sends_out, stores, holding, leaves, IsUnused, CanGive}
+use Rattle.sap_process.specs.Configuration.{Config, ConfigOf, Runs, initial, becomes, spawns, makes, sends_out, stores, holding, leaves, IsUnused, CanGive}
 use Rattle.sap_process.specs.Head as head
 use Rattle.sap_process.specs.Head.{Head}
-use Rattle.sap_process.specs.Instance.{process_instance}
 use Rattle.sap_process.specs.Proc as whole
 use Rattle.sap_process.specs.Proc.{Proc}
 use Rattle.sap_process.specs.ProcessSteps.{ProcessStep, ends, splits, copies, makes_name, outputs, outputs_on, inputs, inputs_on, meets, agrees, differs, shows, inserts, deletes, finds, misses, locks, unlocks, embeds, adversary_makes, knows, ProcessRun, starts, further, IsProcessTrace, Fits, chosen, with_choice, with_term}
-use Rattle.sap_process.specs.Sites.{var_names}
-use Rattle.sap_macro.specs.Expansion.{entered, expanded, meaning_of, same_name, unchanged, binders, binding, binding_vars, behind, bound_by, bound_in, scope_behind}
-use Rattle.sap_macro.specs.Instances.{IsClosed, AreClosedAmong, AreTaken, written_instance}
-use Rattle.sap_macro.specs.Order.{UsesOnly}
+use Rattle.sap_macro.specs.Expansion.{binding_vars}
+use Rattle.sap_macro.specs.Indexed.{defined}
+use Rattle.sap_macro.specs.Instances.{written_instance}
 use Rattle.sap_macro.specs.UpToNames.{AreAlike}
-use Rattle.sap_macro.specs.Written.{Written, nil, call, parallel, replicated, act, test, lookup, Definition}
+use Rattle.sap_macro.specs.Written.{Written, act, lookup}
 use Rattle.sap_macro.specs.WrittenRuns.{StartsWith, written_of, StandsAs, writing, IsWrittenTrace}
-use Rattle.sap_terms.proofs.PlainLaws.Known.{in_head, in_tail, in_cases}
-use Rattle.sap_macro.proofs.Commuting.{Commutes, IsSteady, taken_grows}
-use Rattle.sap_macro.proofs.Continuing.{closed_here, instance_of_expansion, taken_here}
-use Rattle.sap_macro.proofs.Definitions.{known_of}
 use Rattle.sap_macro.proofs.Following.{AlikeThread, both_ended, both_run, AlikeThreads, no_thread, one_thread, HasGroundStore, follows}
-use Rattle.sap_macro.proofs.Kept.{kept}
-use Rattle.sap_macro.proofs.OtherDefinitions.{expansions_among_are_one}
-use Rattle.sap_macro.proofs.Replacing.{binding_kept}
-use Rattle.sap_macro.proofs.Scopes.{Among, behind_cases, in_left, in_right, over_behind}
-use Rattle.sap_macro.proofs.Simulated.{RunsAs, RunsAsThread, both_over, both_go, RunAsThreads, no_more, one_more, head_runs, all_then, spawned}
+use Rattle.sap_macro.proofs.RunningTrees.{Setting, tree_of_written, taken_behind, IsReady, RunsAs, head_runs, head_tree, head_tree_is, itself_expanded, left_part, right_part, copied_part, where_equal, where_other, where_missing, behind_plain, bound_rest, found_rest, both_over, both_go, RunAsThreads, no_more, one_more, in_place, spawned, all_then}
+use Rattle.sap_macro.proofs.WrittenHeads.{heads_are_there, uses_more}
 use Rattle.sap_macro.proofs.Swapped.{other_side}
 
-module _ (names : List (List ℕ)) (ds : List Definition) (all : AreClosedAmong names ds)
-    (closed_body : (d : Definition) → Contains ds d → is_known names d.name ≡ true → IsClosed d.params d.body × UsesOnly names d.body)
-    (means : (d : Definition) → Contains ds d → (ts : List Tree) (taken : List (List ℕ)) → meaning_of ds d.name ts taken ≡ entered (meaning_of ds) d ts taken)
-    (nothing_put : (p : Proc) → process_instance unchanged p ≡ p)
-    (steady : IsSteady (meaning_of ds)) (commuting : Commutes (meaning_of ds))
-    (instance_uses : (σ : Choice) (w : Written) → UsesOnly names w → UsesOnly names (written_instance σ w))
-    (g : Sig) (has_head : (w : Written) → UsesOnly names w → (h : Head Written) × StartsWith ds w h) where
-  abbrev RunsAsTree : Written → Proc → Type 0
-  RunsAsTree w p = RunsAs names ds all closed_body means nothing_put steady commuting instance_uses w p
+module _ (S : Setting) (known : (f : List ℕ) → is_known S.names f ≡ true → is_known (defined S.ds) f ≡ true) where
+  open S use {names, ds, g, ground_form}
 
   abbrev RunAsTrees : List (Option Written) → List (Option Proc) → Type 0
-  RunAsTrees os us = RunAsThreads names ds all closed_body means nothing_put steady commuting instance_uses g os us
-
-  abbrev tree_of_written : Written → List (List ℕ) → Proc
-  tree_of_written w taken = (expanded (meaning_of ds) unchanged same_name w taken).process
-
-  abbrev taken_behind : Written → List (List ℕ) → List (List ℕ)
-  taken_behind w taken = (expanded (meaning_of ds) unchanged same_name w taken).taken
+  RunAsTrees os us = RunAsThreads S os us
 
   -- the configuration with what is written as its threads
   abbrev with_written : Config → List (Option Written) → ConfigOf (writing ds)
@@ -70,46 +44,27 @@ module _ (names : List (List ℕ)) (ds : List Definition) (all : AreClosedAmong 
 
   -- ---- each thread's tree is turned into that of its head
 
-  -- the tree of a head
-  abbrev head_tree : Head Written → List (List ℕ) → Proc
-  head_tree head.nil taken = whole.nil
-  head_tree (head.parallel p q) taken = whole.parallel (tree_of_written p taken) (tree_of_written q (taken_behind p taken))
-  head_tree (head.replicated p) taken = whole.replicated (tree_of_written p taken)
-  head_tree (head.act a p) taken = whole.act a (tree_of_written p taken)
-  head_tree (head.test t u p q) taken = whole.test t u (tree_of_written p taken) (tree_of_written q (taken_behind p taken))
-  head_tree (head.lookup t x p q) taken = whole.lookup t x (tree_of_written p taken) (tree_of_written q (taken_behind p taken))
-
-  head_tree_is : (h : Head Written) (taken : List (List ℕ)) → tree_of_written (written_of h) taken ≡ head_tree h taken
-  head_tree_is head.nil taken = refl
-  head_tree_is (head.parallel p q) taken = refl
-  head_tree_is (head.replicated p) taken = refl
-  head_tree_is (head.act a p) taken = ap (λ z. whole.act z (tree_of_written p taken)) (binding_kept a)
-  head_tree_is (head.test t u p q) taken = λ i. whole.test (kept t i) (kept u i) (tree_of_written p taken) (tree_of_written q (taken_behind p taken))
-  head_tree_is (head.lookup t x p q) taken = ap (λ z. whole.lookup z x (tree_of_written p taken) (tree_of_written q (taken_behind p taken))) (kept t)
-
   -- what is written starts with a head whose tree is this
   record HasTree (w : Written) (x : Proc) : Type 0 where
     pub top : Head Written
     pub starts : StartsWith ds w top
     pub taken : List (List ℕ)
-    pub closed : IsClosed [] (written_of top)
-    pub uses : UsesOnly names (written_of top)
-    pub are_taken : AreTaken taken [] (written_of top)
-    pub is : x ≡ head_tree top taken
+    pub ready : IsReady S (written_of top) taken
+    pub is : x ≡ head_tree S top taken
 
   record TurnedTree (w : Written) (p : Proc) : Type 0 where
     pub tree : Proc
     pub has : HasTree w tree
     pub alike : AreAlike [] p tree
 
-  turned_tree : (w : Written) (p : Proc) → RunsAsTree w p → TurnedTree w p
+  turned_tree : (w : Written) (p : Proc) → RunsAs S w p → TurnedTree w p
   turned_tree w p r =
-      let h = has_head w r.uses in
-      let s = head_runs names ds all closed_body means nothing_put steady commuting instance_uses g w h.0 p h.1 r in
+      let h = heads_are_there ds w S.ordered (uses_more names (defined ds) known w r.ready.uses) in
+      let at = head_runs S w h.0 p h.1 r in
       record {
-        tree = head_tree h.0 s.taken;
-        has = record { top = h.0; starts = h.1; taken = s.taken; closed = s.closed; uses = s.uses; are_taken = s.are_taken; is = refl };
-        alike = subst (λ z. AreAlike [] p z) (head_tree_is h.0 s.taken) (other_side [] (tree_of_written (written_of h.0) s.taken) p s.alike);
+        tree = head_tree S h.0 at.taken;
+        has = record { top = h.0; starts = h.1; taken = at.taken; ready = at.ready; is = refl };
+        alike = subst (λ z. AreAlike [] p z) (head_tree_is S h.0 at.taken) (other_side [] (tree_of_written S (written_of h.0) at.taken) p at.alike);
       }
 
   data HasTreeThread : Option Written → Option Proc → Type 0 where
@@ -140,9 +95,6 @@ module _ (names : List (List ℕ)) (ds : List Definition) (all : AreClosedAmong 
     pub there : slice_get os t ≡ Some (Some written)
     pub has : HasTree written x
 
-  inner : {X : Type 0} (x y : X) → Some x ≡ Some y → x ≡ y
-  inner x y e = cc
-
   written_at : (os : List (Option Written)) (xs : List (Option Proc)) → HaveTrees os xs → (t : ℕ) (x : Proc) → slice_get xs t ≡ Some (Some x) → HasTreeAt os t x
   written_at _ _ none_there t x e = cc
   written_at _ _ (one_there both_gone l) zero x e = cc
@@ -150,51 +102,6 @@ module _ (names : List (List ℕ)) (ds : List Definition) (all : AreClosedAmong 
       let same : y ≡ x = cc in record { written = w; there = refl; has = subst (HasTree w) same h }
   written_at _ _ (one_there {os = os} {us = us} h l) (suc t) x e =
       let later = written_at os us l t x e in record { written = later.written; there = later.there; has = later.has }
-
-  -- thread t goes on as this
-  in_place : (os : List (Option Written)) (us : List (Option Proc)) → RunAsTrees os us → (t : ℕ) (w : Written) (p : Proc) → RunsAsTree w p
-      → RunAsTrees (slice_set os t (Some w)) (slice_set us t (Some p))
-  in_place _ _ no_more t w p h = no_more
-  in_place _ _ (one_more k l) zero w p h = one_more (both_go h) l
-  in_place _ _ (one_more {os = os} {us = us} k l) (suc t) w p h = one_more k (in_place os us l t w p h)
-
-  -- it ends
-  out_of_place : (os : List (Option Written)) (us : List (Option Proc)) → RunAsTrees os us → (t : ℕ) → RunAsTrees (slice_set os t None) (slice_set us t None)
-  out_of_place _ _ no_more t = no_more
-  out_of_place _ _ (one_more k l) zero = one_more both_over l
-  out_of_place _ _ (one_more {os = os} {us = us} k l) (suc t) = one_more k (out_of_place os us l t)
-
-  then_alike : (os : List (Option Written)) (us vs : List (Option Proc)) → RunAsTrees os us → AlikeThreads us vs → RunAsTrees os vs
-  then_alike os us vs r h = all_then names ds all closed_body means nothing_put steady commuting instance_uses g os us vs r h
-
-  spawned_too : (os : List (Option Written)) (us : List (Option Proc)) → RunAsTrees os us → (w : Written) (p : Proc) → RunsAsTree w p
-      → RunAsTrees (os ++ Some w ∷ []) (us ++ Some p ∷ [])
-  spawned_too os us r w p h = spawned names ds all closed_body means nothing_put steady commuting instance_uses g os us r w p h
-
-  -- what goes on is its expansion
-  itself_again : (q : Written) (taken : List (List ℕ)) → IsClosed [] q → UsesOnly names q → AreTaken taken [] q → RunsAsTree q (tree_of_written q taken)
-  itself_again q taken closed uses own = record { closed = closed; uses = uses; taken = taken; are_taken = own; alike = expansions_among_are_one names ds q taken taken all uses closed own own }
-
-  -- also where a choice replaces what is bound
-  replaced_again : (σ : Choice) (vs : List Var) (q : Written) (taken : List (List ℕ)) → ((v : Var) → IsGround (σ v)) → IsClosed (scope_behind [] vs) q → UsesOnly names q
-      → Among (var_names vs) taken → AreTaken taken (scope_behind [] vs) q → RunsAsTree (written_instance (chosen σ vs) q) (process_instance (chosen σ vs) (tree_of_written q taken))
-  replaced_again σ vs q taken messages closed uses among own =
-      let there = closed_here σ vs messages (meaning_of ds) steady commuting q taken closed among in
-      let names_there = taken_here σ vs messages (meaning_of ds) steady commuting q taken closed among own in
-      let uses_there = instance_uses (chosen σ vs) q uses in
-      record {
-        closed = there;
-        uses = uses_there;
-        taken = taken;
-        are_taken = names_there;
-        alike = subst (λ z. AreAlike [] (tree_of_written (written_instance (chosen σ vs) q) taken) z)
-            (instance_of_expansion σ vs messages (meaning_of ds) steady commuting q taken closed among)
-            (expansions_among_are_one names ds (written_instance (chosen σ vs) q) taken taken all uses_there there names_there names_there);
-      }
-
-  names_taken : (vs : List Var) (taken : List (List ℕ)) → Among (bound_in [] vs) taken → Among (var_names vs) taken
-  names_taken vs taken h x k =
-      ⊎_elim (λ l. absurd (false≢true l)) (λ l. h x l) (behind_cases [] vs x (known_of vs (scope_behind [] vs) x (over_behind [] vs) k))
 
   -- ---- what stands at a thread whose tree is that of its head
 
@@ -204,189 +111,149 @@ module _ (names : List (List ℕ)) (ds : List Definition) (all : AreClosedAmong 
       pub rest : Written
       pub stands : StandsAs ds os t (head.act a rest)
       pub taken : List (List ℕ)
-      pub closed : IsClosed (behind [] a) rest
-      pub uses : UsesOnly names rest
-      pub are_taken : AreTaken taken [] (act a rest)
-      pub is : tree_of_written rest taken ≡ p
+      pub ready : IsReady S (act a rest) taken
+      pub is : tree_of_written S rest taken ≡ p
 
     acts_at : (t : ℕ) (a : Action) (p : Proc) → Runs c t (whole.act a p) → ActsAt t a p
-    acts_at t a p r = let f = written_at os c.threads have t (whole.act a p) r in by_head f.written f.there f.has.top f.has.starts f.has.taken f.has.closed f.has.uses f.has.are_taken f.has.is where
-      by_head : (w : Written) → slice_get os t ≡ Some (Some w) → (h : Head Written) → StartsWith ds w h → (taken : List (List ℕ)) → IsClosed [] (written_of h)
-          → UsesOnly names (written_of h) → AreTaken taken [] (written_of h) → whole.act a p ≡ head_tree h taken → ActsAt t a p
-      by_head w i head.nil s taken k u o e = cc
-      by_head w i (head.parallel x y) s taken k u o e = cc
-      by_head w i (head.replicated x) s taken k u o e = cc
-      by_head w i (head.act b q) s taken k u o e =
+    acts_at t a p r = let f = written_at os c.threads have t (whole.act a p) r in by_head f.written f.there f.has.top f.has.starts f.has.taken f.has.ready f.has.is where
+      by_head : (w : Written) → slice_get os t ≡ Some (Some w) → (h : Head Written) → StartsWith ds w h → (taken : List (List ℕ)) → IsReady S (written_of h) taken
+          → whole.act a p ≡ head_tree S h taken → ActsAt t a p
+      by_head w i head.nil s taken k e = cc
+      by_head w i (head.parallel x y) s taken k e = cc
+      by_head w i (head.replicated x) s taken k e = cc
+      by_head w i (head.act b q) s taken k e =
           let same : b ≡ a = cc in
           record {
             rest = q;
             stands = record { process = w; runs = i; head = subst (λ z. StartsWith ds w (head.act z q)) same s };
             taken = taken;
-            closed = subst (λ z. IsClosed (behind [] z) q) same k.1.1;
-            uses = u;
-            are_taken = subst (λ z. AreTaken taken [] (act z q)) same o;
+            ready = subst (λ z. IsReady S (act z q) taken) same k;
             is = cc;
           }
-      by_head w i (head.test m n x y) s taken k u o e = cc
-      by_head w i (head.lookup m v x y) s taken k u o e = cc
+      by_head w i (head.test m n x y) s taken k e = cc
+      by_head w i (head.lookup m v x y) s taken k e = cc
 
-    -- it goes on
-    acted : (t : ℕ) (a : Action) (p : Proc) (k : ActsAt t a p) → behind [] a ≡ [] → RunsAsTree k.rest p
-    acted t a p k same =
-        subst (RunsAsTree k.rest) k.is
-        (itself_again k.rest k.taken (subst (λ z. IsClosed z k.rest) same k.closed) k.uses
-        (record { holds = λ x m. k.are_taken.holds x (in_right (bound_by [] a) (binders (behind [] a) k.rest) x (subst (λ z. is_known (binders z k.rest) x ≡ true) (sym same) m)) }))
+    -- thread t goes on as this
+    goes_on_as : (t : ℕ) (w : Written) (p : Proc) → RunsAs S w p → RunAsTrees (slice_set os t (Some w)) (slice_set c.threads t (Some p))
+    goes_on_as t w p r = in_place S os c.threads runs t (Some w) (Some p) (both_go r)
 
-    goes_on : (t : ℕ) (a : Action) (p : Proc) (k : ActsAt t a p) → behind [] a ≡ [] → RunAsTrees (slice_set os t (Some k.rest)) (slice_set c.threads t (Some p))
-    goes_on t a p k same = in_place os c.threads runs t k.rest p (acted t a p k same)
+    goes_on : (t : ℕ) (a : Action) (p : Proc) (k : ActsAt t a p) → binding_vars a ≡ [] → RunAsTrees (slice_set os t (Some k.rest)) (slice_set c.threads t (Some p))
+    goes_on t a p k nothing = goes_on_as t k.rest p (subst (RunsAs S k.rest) k.is (itself_expanded S k.rest k.taken (behind_plain S a k.rest k.taken nothing k.ready)))
 
     -- it goes on with what is bound replaced
     bound : (t : ℕ) (a : Action) (p : Proc) (σ : Choice) (k : ActsAt t a p) → ((v : Var) → IsGround (σ v))
-        → RunsAsTree (written_instance (chosen σ (binding_vars a)) k.rest) (with_choice σ (binding_vars a) p)
+        → RunsAs S (written_instance (chosen σ (binding_vars a)) k.rest) (with_choice σ (binding_vars a) p)
     bound t a p σ k messages =
-        let vs = binding_vars a in
-        subst (λ z. RunsAsTree (written_instance (chosen σ vs) k.rest) (with_choice σ vs z)) k.is
-        (replaced_again σ vs k.rest k.taken messages k.closed k.uses
-        (names_taken vs k.taken (λ x m. k.are_taken.holds x (in_left (bound_by [] a) (binders (behind [] a) k.rest) x m)))
-        (record { holds = λ x m. k.are_taken.holds x (in_right (bound_by [] a) (binders (behind [] a) k.rest) x m) }))
+        subst (λ z. RunsAs S (written_instance (chosen σ (binding_vars a)) k.rest) (with_choice σ (binding_vars a) z)) k.is (bound_rest S σ a k.rest k.taken messages k.ready)
 
     goes_on_bound : (t : ℕ) (a : Action) (p : Proc) (σ : Choice) (k : ActsAt t a p) → ((v : Var) → IsGround (σ v))
         → RunAsTrees (slice_set os t (Some (written_instance (chosen σ (binding_vars a)) k.rest))) (slice_set c.threads t (Some (with_choice σ (binding_vars a) p)))
-    goes_on_bound t a p σ k messages =
-        in_place os c.threads runs t (written_instance (chosen σ (binding_vars a)) k.rest) (with_choice σ (binding_vars a) p) (bound t a p σ k messages)
+    goes_on_bound t a p σ k messages = goes_on_as t (written_instance (chosen σ (binding_vars a)) k.rest) (with_choice σ (binding_vars a) p) (bound t a p σ k messages)
 
     -- two that go on, each as its tree
     record PartsAt (t : ℕ) (two : Written → Written → Head Written) (p q : Proc) : Type 0 where
       pub first : Written
       pub second : Written
       pub stands : StandsAs ds os t (two first second)
-      pub runs_first : RunsAsTree first p
-      pub runs_second : RunsAsTree second q
-
-    both_parts : (x y : Written) (taken : List (List ℕ)) → IsClosed [] x → IsClosed [] y → UsesOnly names x → UsesOnly names y → AreTaken taken [] (parallel x y)
-        → RunsAsTree x (tree_of_written x taken) × RunsAsTree y (tree_of_written y (taken_behind x taken))
-    both_parts x y taken closed closed_too uses uses_too own =
-        (itself_again x taken closed uses (record { holds = λ z m. own.holds z (in_left (binders [] x) (binders [] y) z m) }),
-        itself_again y (taken_behind x taken) closed_too uses_too
-        (record { holds = λ z m. taken_grows (meaning_of ds) steady unchanged same_name x taken z (own.holds z (in_right (binders [] x) (binders [] y) z m)) }))
+      pub runs_first : RunsAs S first p
+      pub runs_second : RunsAs S second q
 
     parallel_at : (t : ℕ) (p q : Proc) → Runs c t (whole.parallel p q) → PartsAt t head.parallel p q
-    parallel_at t p q r = let f = written_at os c.threads have t (whole.parallel p q) r in by_head f.written f.there f.has.top f.has.starts f.has.taken f.has.closed f.has.uses f.has.are_taken f.has.is where
-      by_head : (w : Written) → slice_get os t ≡ Some (Some w) → (h : Head Written) → StartsWith ds w h → (taken : List (List ℕ)) → IsClosed [] (written_of h)
-          → UsesOnly names (written_of h) → AreTaken taken [] (written_of h) → whole.parallel p q ≡ head_tree h taken → PartsAt t head.parallel p q
-      by_head w i head.nil s taken k u o e = cc
-      by_head w i (head.parallel x y) s taken k u o e =
-          let first : tree_of_written x taken ≡ p = cc in
-          let second : tree_of_written y (taken_behind x taken) ≡ q = cc in
-          let run = both_parts x y taken k.0 k.1 u.0 u.1 o in
+    parallel_at t p q r = let f = written_at os c.threads have t (whole.parallel p q) r in by_head f.written f.there f.has.top f.has.starts f.has.taken f.has.ready f.has.is where
+      by_head : (w : Written) → slice_get os t ≡ Some (Some w) → (h : Head Written) → StartsWith ds w h → (taken : List (List ℕ)) → IsReady S (written_of h) taken
+          → whole.parallel p q ≡ head_tree S h taken → PartsAt t head.parallel p q
+      by_head w i head.nil s taken k e = cc
+      by_head w i (head.parallel x y) s taken k e =
+          let first : tree_of_written S x taken ≡ p = cc in
+          let second : tree_of_written S y (taken_behind S x taken) ≡ q = cc in
           record {
             first = x;
             second = y;
             stands = record { process = w; runs = i; head = s };
-            runs_first = subst (RunsAsTree x) first run.0;
-            runs_second = subst (RunsAsTree y) second run.1;
+            runs_first = subst (RunsAs S x) first (itself_expanded S x taken (left_part S x y taken k));
+            runs_second = subst (RunsAs S y) second (itself_expanded S y (taken_behind S x taken) (right_part S x y taken k));
           }
-      by_head w i (head.replicated x) s taken k u o e = cc
-      by_head w i (head.act b x) s taken k u o e = cc
-      by_head w i (head.test m n x y) s taken k u o e = cc
-      by_head w i (head.lookup m v x y) s taken k u o e = cc
+      by_head w i (head.replicated x) s taken k e = cc
+      by_head w i (head.act b x) s taken k e = cc
+      by_head w i (head.test m n x y) s taken k e = cc
+      by_head w i (head.lookup m v x y) s taken k e = cc
 
     test_at : (t : ℕ) (m n : Tree) (p q : Proc) → Runs c t (whole.test m n p q) → PartsAt t (head.test m n) p q
-    test_at t m n p q r = let f = written_at os c.threads have t (whole.test m n p q) r in by_head f.written f.there f.has.top f.has.starts f.has.taken f.has.closed f.has.uses f.has.are_taken f.has.is where
-      by_head : (w : Written) → slice_get os t ≡ Some (Some w) → (h : Head Written) → StartsWith ds w h → (taken : List (List ℕ)) → IsClosed [] (written_of h)
-          → UsesOnly names (written_of h) → AreTaken taken [] (written_of h) → whole.test m n p q ≡ head_tree h taken → PartsAt t (head.test m n) p q
-      by_head w i head.nil s taken k u o e = cc
-      by_head w i (head.parallel x y) s taken k u o e = cc
-      by_head w i (head.replicated x) s taken k u o e = cc
-      by_head w i (head.act b x) s taken k u o e = cc
-      by_head w i (head.test l d x y) s taken k u o e =
+    test_at t m n p q r = let f = written_at os c.threads have t (whole.test m n p q) r in by_head f.written f.there f.has.top f.has.starts f.has.taken f.has.ready f.has.is where
+      by_head : (w : Written) → slice_get os t ≡ Some (Some w) → (h : Head Written) → StartsWith ds w h → (taken : List (List ℕ)) → IsReady S (written_of h) taken
+          → whole.test m n p q ≡ head_tree S h taken → PartsAt t (head.test m n) p q
+      by_head w i head.nil s taken k e = cc
+      by_head w i (head.parallel x y) s taken k e = cc
+      by_head w i (head.replicated x) s taken k e = cc
+      by_head w i (head.act b x) s taken k e = cc
+      by_head w i (head.test l d x y) s taken k e =
           let left : l ≡ m = cc in
           let right : d ≡ n = cc in
-          let first : tree_of_written x taken ≡ p = cc in
-          let second : tree_of_written y (taken_behind x taken) ≡ q = cc in
-          let run = both_parts x y taken k.1.1.0 k.1.1.1 u.0 u.1 (record { holds = o.holds }) in
+          let first : tree_of_written S x taken ≡ p = cc in
+          let second : tree_of_written S y (taken_behind S x taken) ≡ q = cc in
           record {
             first = x;
             second = y;
             stands = record { process = w; runs = i; head = subst (λ z. StartsWith ds w (head.test m z x y)) right (subst (λ z. StartsWith ds w (head.test z d x y)) left s) };
-            runs_first = subst (RunsAsTree x) first run.0;
-            runs_second = subst (RunsAsTree y) second run.1;
+            runs_first = subst (RunsAs S x) first (itself_expanded S x taken (where_equal S l d x y taken k));
+            runs_second = subst (RunsAs S y) second (itself_expanded S y (taken_behind S x taken) (where_other S l d x y taken k));
           }
-      by_head w i (head.lookup l v x y) s taken k u o e = cc
+      by_head w i (head.lookup l v x y) s taken k e = cc
 
     -- a look-up: what goes on where a ground value is found, and where none is
     record LooksAt (t : ℕ) (m : Tree) (v : Var) (p q : Proc) : Type 0 where
       pub first : Written
       pub second : Written
       pub stands : StandsAs ds os t (head.lookup m v first second)
-      pub found : (y : Tree) → IsGround y → RunsAsTree (written_instance (chosen (λ z. y) (v ∷ [])) first) (with_term v y p)
-      pub runs_second : RunsAsTree second q
+      pub found : (y : Tree) → IsGround y → RunsAs S (written_instance (chosen (λ z. y) (v ∷ [])) first) (with_term v y p)
+      pub runs_second : RunsAs S second q
 
     lookup_at : (t : ℕ) (m : Tree) (v : Var) (p q : Proc) → Runs c t (whole.lookup m v p q) → LooksAt t m v p q
-    lookup_at t m v p q r = let f = written_at os c.threads have t (whole.lookup m v p q) r in by_head f.written f.there f.has.top f.has.starts f.has.taken f.has.closed f.has.uses f.has.are_taken f.has.is where
-      found_there : (x y : Written) (taken : List (List ℕ)) → IsClosed (v.name ∷ []) x → UsesOnly names x → AreTaken taken [] (lookup m v x y) → tree_of_written x taken ≡ p
-          → (z : Tree) → IsGround z → RunsAsTree (written_instance (chosen (λ b. z) (v ∷ [])) x) (with_term v z p)
-      found_there x y taken closed uses own is z ground_there =
-          let rest = binders (v.name ∷ []) x ++ binders [] y in
-          let among : Among (var_names (v ∷ [])) taken =
-          λ b n. ⊎_elim (λ j. subst (λ a. is_known taken a ≡ true) j (own.holds v.name (in_head v.name rest))) (λ j. absurd (false≢true j)) (in_cases b v.name [] n) in
-          subst (λ b. RunsAsTree (written_instance (chosen (λ a. z) (v ∷ [])) x) (with_term v z b)) is
-          (replaced_again (λ b. z) (v ∷ []) x taken (λ b. ground_there) closed uses among
-          (record { holds = λ b n. own.holds b (in_tail b v.name rest (in_left (binders (v.name ∷ []) x) (binders [] y) b n)) }))
-
-      else_there : (x y : Written) (taken : List (List ℕ)) → IsClosed [] y → UsesOnly names y → AreTaken taken [] (lookup m v x y) → RunsAsTree y (tree_of_written y (taken_behind x taken))
-      else_there x y taken closed uses own =
-          let rest = binders (v.name ∷ []) x ++ binders [] y in
-          itself_again y (taken_behind x taken) closed uses
-          (record {
-            holds = λ z n.
-                taken_grows (meaning_of ds) steady unchanged same_name x taken z (own.holds z (in_tail z v.name rest (in_right (binders (v.name ∷ []) x) (binders [] y) z n)));
-          })
-
-      by_head : (w : Written) → slice_get os t ≡ Some (Some w) → (h : Head Written) → StartsWith ds w h → (taken : List (List ℕ)) → IsClosed [] (written_of h)
-          → UsesOnly names (written_of h) → AreTaken taken [] (written_of h) → whole.lookup m v p q ≡ head_tree h taken → LooksAt t m v p q
-      by_head w i head.nil s taken k u o e = cc
-      by_head w i (head.parallel x y) s taken k u o e = cc
-      by_head w i (head.replicated x) s taken k u o e = cc
-      by_head w i (head.act b x) s taken k u o e = cc
-      by_head w i (head.test l d x y) s taken k u o e = cc
-      by_head w i (head.lookup l b x y) s taken k u o e =
+    lookup_at t m v p q r = let f = written_at os c.threads have t (whole.lookup m v p q) r in by_head f.written f.there f.has.top f.has.starts f.has.taken f.has.ready f.has.is where
+      by_head : (w : Written) → slice_get os t ≡ Some (Some w) → (h : Head Written) → StartsWith ds w h → (taken : List (List ℕ)) → IsReady S (written_of h) taken
+          → whole.lookup m v p q ≡ head_tree S h taken → LooksAt t m v p q
+      by_head w i head.nil s taken k e = cc
+      by_head w i (head.parallel x y) s taken k e = cc
+      by_head w i (head.replicated x) s taken k e = cc
+      by_head w i (head.act b x) s taken k e = cc
+      by_head w i (head.test l d x y) s taken k e = cc
+      by_head w i (head.lookup l b x y) s taken k e =
           let key : l ≡ m = cc in
           let name : b ≡ v = cc in
-          let first : tree_of_written x taken ≡ p = cc in
-          let second : tree_of_written y (taken_behind x taken) ≡ q = cc in
-          let own = subst (λ z. AreTaken taken [] (lookup m z x y)) name (record { holds = o.holds }) in
+          let first : tree_of_written S x taken ≡ p = cc in
+          let second : tree_of_written S y (taken_behind S x taken) ≡ q = cc in
+          let ready = subst (λ z. IsReady S (lookup m z x y) taken) name (subst (λ z. IsReady S (lookup z b x y) taken) key k) in
           record {
             first = x;
             second = y;
             stands = record { process = w; runs = i; head = subst (λ z. StartsWith ds w (head.lookup m z x y)) name (subst (λ z. StartsWith ds w (head.lookup z b x y)) key s) };
-            found = found_there x y taken (subst (λ (z : Var). IsClosed (z.name ∷ []) x) name k.1.1.0) u.0 own first;
-            runs_second = subst (RunsAsTree y) second (else_there x y taken k.1.1.1 u.1 own);
+            found = λ z h. subst (λ a. RunsAs S (written_instance (chosen (λ n. z) (v ∷ [])) x) (with_term v z a)) first (found_rest S m z v x y taken h ready);
+            runs_second = subst (RunsAs S y) second (itself_expanded S y (taken_behind S x taken) (where_missing S m v x y taken ready));
           }
 
     -- a replication
     record CopiesAt (t : ℕ) (p : Proc) : Type 0 where
       pub rest : Written
       pub stands : StandsAs ds os t (head.replicated rest)
-      pub runs_rest : RunsAsTree rest p
+      pub runs_rest : RunsAs S rest p
 
     replicated_at : (t : ℕ) (p : Proc) → Runs c t (whole.replicated p) → CopiesAt t p
-    replicated_at t p r = let f = written_at os c.threads have t (whole.replicated p) r in by_head f.written f.there f.has.top f.has.starts f.has.taken f.has.closed f.has.uses f.has.are_taken f.has.is where
-      by_head : (w : Written) → slice_get os t ≡ Some (Some w) → (h : Head Written) → StartsWith ds w h → (taken : List (List ℕ)) → IsClosed [] (written_of h)
-          → UsesOnly names (written_of h) → AreTaken taken [] (written_of h) → whole.replicated p ≡ head_tree h taken → CopiesAt t p
-      by_head w i head.nil s taken k u o e = cc
-      by_head w i (head.parallel x y) s taken k u o e = cc
-      by_head w i (head.replicated x) s taken k u o e =
-          let is : tree_of_written x taken ≡ p = cc in
-          record { rest = x; stands = record { process = w; runs = i; head = s }; runs_rest = subst (RunsAsTree x) is (itself_again x taken k u (record { holds = o.holds })) }
-      by_head w i (head.act b x) s taken k u o e = cc
-      by_head w i (head.test l d x y) s taken k u o e = cc
-      by_head w i (head.lookup l b x y) s taken k u o e = cc
+    replicated_at t p r = let f = written_at os c.threads have t (whole.replicated p) r in by_head f.written f.there f.has.top f.has.starts f.has.taken f.has.ready f.has.is where
+      by_head : (w : Written) → slice_get os t ≡ Some (Some w) → (h : Head Written) → StartsWith ds w h → (taken : List (List ℕ)) → IsReady S (written_of h) taken
+          → whole.replicated p ≡ head_tree S h taken → CopiesAt t p
+      by_head w i head.nil s taken k e = cc
+      by_head w i (head.parallel x y) s taken k e = cc
+      by_head w i (head.replicated x) s taken k e =
+          let is : tree_of_written S x taken ≡ p = cc in
+          record { rest = x; stands = record { process = w; runs = i; head = s }; runs_rest = subst (RunsAs S x) is (itself_expanded S x taken (copied_part S x taken k)) }
+      by_head w i (head.act b x) s taken k e = cc
+      by_head w i (head.test l d x y) s taken k e = cc
+      by_head w i (head.lookup l b x y) s taken k e = cc
 
     -- nothing more
     nil_at : (t : ℕ) → Runs c t whole.nil → StandsAs ds os t head.nil
     nil_at t r = let f = written_at os c.threads have t whole.nil r in by_head f.written f.there f.has.top f.has.starts f.has.taken f.has.is where
-      by_head : (w : Written) → slice_get os t ≡ Some (Some w) → (h : Head Written) → StartsWith ds w h → (taken : List (List ℕ)) → whole.nil ≡ head_tree h taken → StandsAs ds os t head.nil
+      by_head : (w : Written) → slice_get os t ≡ Some (Some w) → (h : Head Written) → StartsWith ds w h → (taken : List (List ℕ)) → whole.nil ≡ head_tree S h taken → StandsAs ds os t head.nil
       by_head w i head.nil s taken e = record { process = w; runs = i; head = s }
       by_head w i (head.parallel x y) s taken e = cc
       by_head w i (head.replicated x) s taken e = cc
@@ -406,7 +273,7 @@ module _ (names : List (List ℕ)) (ds : List Definition) (all : AreClosedAmong 
     given x h = record { deducible = h.deducible; normal = h.normal }
 
     ended : (t : ℕ) → Runs c t whole.nil → ComesFrom [] (becomes c t None)
-    ended t r = record { threads = slice_set os t None; step = ends t (nil_at t r); running = out_of_place os c.threads runs t }
+    ended t r = record { threads = slice_set os t None; step = ends t (nil_at t r); running = in_place S os c.threads runs t None None both_over }
 
     split : (t : ℕ) (p q : Proc) → Runs c t (whole.parallel p q) → ComesFrom [] (spawns (becomes c t (Some p)) q)
     split t p q r =
@@ -414,13 +281,13 @@ module _ (names : List (List ℕ)) (ds : List Definition) (all : AreClosedAmong 
         record {
           threads = slice_set os t (Some k.first) ++ Some k.second ∷ [];
           step = splits t k.stands;
-          running = spawned_too (slice_set os t (Some k.first)) (slice_set c.threads t (Some p)) (in_place os c.threads runs t k.first p k.runs_first) k.second q k.runs_second;
+          running = spawned S (slice_set os t (Some k.first)) (slice_set c.threads t (Some p)) (goes_on_as t k.first p k.runs_first) k.second q k.runs_second;
         }
 
     copied : (t : ℕ) (p : Proc) → Runs c t (whole.replicated p) → ComesFrom [] (spawns c p)
     copied t p r =
         let k = replicated_at t p r in
-        record { threads = os ++ Some k.rest ∷ []; step = copies t k.stands; running = spawned_too os c.threads runs k.rest p k.runs_rest }
+        record { threads = os ++ Some k.rest ∷ []; step = copies t k.stands; running = spawned S os c.threads runs k.rest p k.runs_rest }
 
     made : (t n : ℕ) (x : Var) (p : Proc) → Runs c t (whole.act (new x) p) → IsUnused c n → ComesFrom [] (makes (becomes c t (Some (with_term x (fresh n) p))) n)
     made t n x p r i =
@@ -472,19 +339,19 @@ module _ (names : List (List ℕ)) (ds : List Definition) (all : AreClosedAmong 
           threads = slice_set (slice_set os a (Some k.rest)) t (Some next);
           step = meets a t σ k.stands h.stands e fits;
           running =
-              in_place (slice_set os a (Some k.rest)) (slice_set c.threads a (Some p)) (goes_on a (send m n) p k refl) t next (with_choice σ (tree_vars r) q)
-              (bound t (receive l r) q σ h (λ v. (fits.messages v).ground));
+              in_place S (slice_set os a (Some k.rest)) (slice_set c.threads a (Some p)) (goes_on a (send m n) p k refl) t (Some next) (Some (with_choice σ (tree_vars r) q))
+              (both_go (bound t (receive l r) q σ h (λ v. (fits.messages v).ground)));
         }
 
     agreed : (t : ℕ) (m n : Tree) (p q : Proc) → Runs c t (whole.test m n p q) → IsTheoryEqual (equations g) m n → ComesFrom [] (becomes c t (Some p))
     agreed t m n p q r e =
         let k = test_at t m n p q r in
-        record { threads = slice_set os t (Some k.first); step = agrees t k.stands e; running = in_place os c.threads runs t k.first p k.runs_first }
+        record { threads = slice_set os t (Some k.first); step = agrees t k.stands e; running = goes_on_as t k.first p k.runs_first }
 
     differed : (t : ℕ) (m n : Tree) (p q : Proc) → Runs c t (whole.test m n p q) → ¬ IsTheoryEqual (equations g) m n → ComesFrom [] (becomes c t (Some q))
     differed t m n p q r e =
         let k = test_at t m n p q r in
-        record { threads = slice_set os t (Some k.second); step = differs t k.stands e; running = in_place os c.threads runs t k.second q k.runs_second }
+        record { threads = slice_set os t (Some k.second); step = differs t k.stands e; running = goes_on_as t k.second q k.runs_second }
 
     shown_fact : (t : ℕ) (f h : Fact) (p : Proc) → Runs c t (whole.act (event f) p) → IsFormOfFact (equations g) f h → ComesFrom (h ∷ []) (becomes c t (Some p))
     shown_fact t f h p r i =
@@ -510,14 +377,14 @@ module _ (names : List (List ℕ)) (ds : List Definition) (all : AreClosedAmong 
         record {
           threads = slice_set os t (Some next);
           step = finds t k.stands e f;
-          running = in_place os c.threads runs t next (with_term x v p) (k.found v (ground l v f));
+          running = goes_on_as t next (with_term x v p) (k.found v (ground l v f));
         }
 
     missed : (t : ℕ) (m l : Tree) (x : Var) (p q : Proc) → Runs c t (whole.lookup m x p q) → IsNormalForm (equations g) m l → c.store l ≡ None
         → ComesFrom [] (becomes c t (Some q))
     missed t m l x p q r e f =
         let k = lookup_at t m x p q r in
-        record { threads = slice_set os t (Some k.second); step = misses t k.stands e f; running = in_place os c.threads runs t k.second q k.runs_second }
+        record { threads = slice_set os t (Some k.second); step = misses t k.stands e f; running = goes_on_as t k.second q k.runs_second }
 
     locked : (t : ℕ) (m l : Tree) (n : ℕ) (p : Proc) → Runs c t (whole.act (lock m n) p) → IsNormalForm (equations g) m l → c.held l ≡ false
         → ComesFrom [] (holding (becomes c t (Some p)) l true)
@@ -579,40 +446,39 @@ module _ (names : List (List ℕ)) (ds : List Definition) (all : AreClosedAmong 
   other_threads _ _ no_thread = no_thread
   other_threads _ _ (one_thread {o = o} {u = u} {os = os} {us = us} h l) = one_thread (other_thread o u h) (other_threads os us l)
 
-  module _ (ground_form : (t n : Tree) → IsGround t → IsNormalForm (equations g) t n → IsGround n) where
-    -- a step of trees is one of what is written, to where threads run as the trees behind
-    pub record StepsBack (c : Config) (os : List (Option Written)) (label : List Fact) (d : Config) : Type 0 where
-      pub threads : List (Option Written)
-      pub step : ProcessStep g (with_written c os) label (with_written d threads)
-      pub running : RunAsTrees threads d.threads
-      pub ground : HasGroundStore d
+  -- a step of trees is one of what is written, to where threads run as the trees behind
+  pub record StepsBack (c : Config) (os : List (Option Written)) (label : List Fact) (d : Config) : Type 0 where
+    pub threads : List (Option Written)
+    pub step : ProcessStep g (with_written c os) label (with_written d threads)
+    pub running : RunAsTrees threads d.threads
+    pub ground : HasGroundStore d
 
-    pub steps_back : (c d : Config) (label : List Fact) (os : List (Option Written)) → RunAsTrees os c.threads → HasGroundStore c → ProcessStep g c label d → StepsBack c os label d
-    steps_back c d label os r ground step =
-        let heads = turned os c.threads r in
-        let after = follows g ground_form c d label heads.threads step heads.alike ground in
-        let there = record c { threads = heads.threads } in
-        let back = comes_from there (record d { threads = after.threads }) label os after.step heads.have (then_alike os c.threads heads.threads r heads.alike) ground in
-        record {
-          threads = back.threads;
-          step = back.step;
-          running = then_alike back.threads after.threads d.threads back.running (other_threads d.threads after.threads after.alike);
-          ground = after.ground;
-        }
+  pub steps_back : (c d : Config) (label : List Fact) (os : List (Option Written)) → RunAsTrees os c.threads → HasGroundStore c → ProcessStep g c label d → StepsBack c os label d
+  steps_back c d label os r ground step =
+      let heads = turned os c.threads r in
+      let after = follows g ground_form c d label heads.threads step heads.alike ground in
+      let there = record c { threads = heads.threads } in
+      let back = comes_from there (record d { threads = after.threads }) label os after.step heads.have (all_then S os c.threads heads.threads r heads.alike) ground in
+      record {
+        threads = back.threads;
+        step = back.step;
+        running = all_then S back.threads after.threads d.threads back.running (other_threads d.threads after.threads after.alike);
+        ground = after.ground;
+      }
 
-    -- a run of the tree is one of what is written
-    pub record RunsBack (w : Written) (tr : Trace) (c : Config) : Type 0 where
-      pub threads : List (Option Written)
-      pub run : ProcessRun g (initial {k = writing ds} w) (with_written c threads) tr
-      pub running : RunAsTrees threads c.threads
-      pub ground : HasGroundStore c
+  -- a run of the tree is one of what is written
+  pub record RunsBack (w : Written) (tr : Trace) (c : Config) : Type 0 where
+    pub threads : List (Option Written)
+    pub run : ProcessRun g (initial {k = writing ds} w) (with_written c threads) tr
+    pub running : RunAsTrees threads c.threads
+    pub ground : HasGroundStore c
 
-    pub runs_back : (w : Written) (p : Proc) (tr : Trace) (c : Config) → RunsAsTree w p → ProcessRun g (initial p) c tr → RunsBack w tr c
-    runs_back w p _ _ h starts = record { threads = Some w ∷ []; run = starts; running = one_more (both_go h) no_more; ground = λ k v e. cc }
-    runs_back w p _ _ h (further {c = c} {d = d} {tr = tr} {label = label} r i) =
-        let before = runs_back w p tr c h r in
-        let later = steps_back c d label before.threads before.running before.ground i in
-        record { threads = later.threads; run = further before.run later.step; running = later.running; ground = later.ground }
+  pub runs_back : (w : Written) (p : Proc) (tr : Trace) (c : Config) → RunsAs S w p → ProcessRun g (initial p) c tr → RunsBack w tr c
+  runs_back w p _ _ h starts = record { threads = Some w ∷ []; run = starts; running = one_more (both_go h) no_more; ground = λ k v e. cc }
+  runs_back w p _ _ h (further {c = c} {d = d} {tr = tr} {label = label} r i) =
+      let before = runs_back w p tr c h r in
+      let later = steps_back c d label before.threads before.running before.ground i in
+      record { threads = later.threads; run = further before.run later.step; running = later.running; ground = later.ground }
 
-    pub written_traces : (w : Written) (p : Proc) (tr : Trace) → RunsAsTree w p → IsProcessTrace g p tr → IsWrittenTrace g ds w tr
-    written_traces w p tr h t = let r = runs_back w p tr t.0 h t.1 in (with_written t.0 r.threads, r.run)
+  pub written_traces : (w : Written) (p : Proc) (tr : Trace) → RunsAs S w p → IsProcessTrace g p tr → IsWrittenTrace g ds w tr
+  written_traces w p tr h t = let r = runs_back w p tr t.0 h t.1 in (with_written t.0 r.threads, r.run)
