@@ -31,5 +31,8 @@ pub mod Closed
 pub mod Continuing
 pub mod OrderedMeanings
 pub mod RunningTrees
+pub mod WrittenSteps
+pub mod WrittenTraces
 pub mod WrittenHeads
+pub mod DefinedNames
 pub mod WrittenBack

@@ -24,9 +24,11 @@ use Rattle.sap_process.specs.ProcessSteps.{ProcessStep, ends, splits, copies, ma
 use Rattle.sap_macro.specs.Expansion.{binding_vars}
 use Rattle.sap_macro.specs.Indexed.{defined}
 use Rattle.sap_macro.specs.Instances.{written_instance}
+use Rattle.sap_macro.specs.Order.{UsesOnly}
 use Rattle.sap_macro.specs.UpToNames.{AreAlike}
 use Rattle.sap_macro.specs.Written.{Written, act, lookup}
 use Rattle.sap_macro.specs.WrittenRuns.{StartsWith, written_of, StandsAs, writing, IsWrittenTrace}
+use Rattle.sap_macro.proofs.DefinedNames.{in_both, among_second, uses_both, closed_among_defined}
 use Rattle.sap_macro.proofs.Following.{AlikeThread, both_ended, both_run, AlikeThreads, no_thread, one_thread, HasGroundStore, follows}
 use Rattle.sap_macro.proofs.RunningTrees.{Setting, tree_of_written, taken_behind, IsReady, RunsAs, head_runs, head_tree, head_tree_is, itself_expanded, left_part, right_part, copied_part, where_equal, where_other, where_missing, behind_plain, bound_rest, found_rest, both_over, both_go, RunAsThreads, no_more, one_more, in_place, spawned, all_then}
 use Rattle.sap_macro.proofs.WrittenHeads.{heads_are_there, uses_more}
@@ -480,5 +482,14 @@ module _ (S : Setting) (known : (f : List ℕ) → is_known S.names f ≡ true �
       let later = steps_back c d label before.threads before.running before.ground i in
       record { threads = later.threads; run = further before.run later.step; running = later.running; ground = later.ground }
 
-  pub written_traces : (w : Written) (p : Proc) (tr : Trace) → RunsAs S w p → IsProcessTrace g p tr → IsWrittenTrace g ds w tr
-  written_traces w p tr h t = let r = runs_back w p tr t.0 h t.1 in (with_written t.0 r.threads, r.run)
+  traces_back : (w : Written) (p : Proc) (tr : Trace) → RunsAs S w p → IsProcessTrace g p tr → IsWrittenTrace g ds w tr
+  traces_back w p tr h t = let r = runs_back w p tr t.0 h t.1 in (with_written t.0 r.threads, r.run)
+
+-- each trace of the expansion is one of what is written, where its names are defined
+pub shown_as_written : (S : Setting) (p : Written) (taken : List (List ℕ)) → IsReady S p taken → UsesOnly (defined S.ds) p → (tr : Trace)
+    → IsProcessTrace S.g (tree_of_written S p taken) tr → IsWrittenTrace S.g S.ds p tr
+shown_as_written S p taken ready uses tr t =
+    let among = in_both S.names (defined S.ds) in
+    let T : Setting = record S { names = among; all = closed_among_defined S.names S.ds S.ordered S.all } in
+    let there : IsReady T p taken = record { closed = ready.closed; uses = uses_both S.names (defined S.ds) p ready.uses uses; own = ready.own } in
+    traces_back T (among_second S.names (defined S.ds)) p (tree_of_written S p taken) tr (itself_expanded T p taken there) t

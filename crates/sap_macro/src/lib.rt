@@ -27,6 +27,5 @@ pub use laws::{
 };
 pub use seeing::seen;
 pub use sizes::{Size, expanded_size};
-pub use written_laws::what_is_written_runs_as_its_expansion;
 pub use source::{Doing, Source};
-pub use written_laws::written_heads_are_one;
+pub use written_laws::{expansions_traces_are_written, written_heads_are_one, written_traces_are_expansions};

@@ -1,15 +1,43 @@
 //! Laws of processes that run as they are written.
-ghost use Rattle.std.specs.Prelude.{◌≡◌, List, []};
+ghost use Rattle.std.specs.Prelude.{◌≡◌, ℕ, List, []};
+ghost use Rattle.sap_terms.specs.Signature.{Sig};
+ghost use Rattle.sap_terms.specs.Trace.{Trace};
 ghost use Rattle.sap_process.specs.Head.{Head};
+ghost use Rattle.sap_process.specs.ProcessSteps.{IsProcessTrace};
+ghost use Rattle.sap_macro.specs.Expansion.{meaning_of, expanded, unchanged, same_name};
 ghost use Rattle.sap_macro.specs.Indexed.{defined};
+ghost use Rattle.sap_macro.specs.Instances.{IsClosed, AreClosedAmong, AreTaken};
 ghost use Rattle.sap_macro.specs.Order.{AreInOrder, UsesOnly};
-ghost use Rattle.sap_macro.specs.Written.{nil, Written, Definition};
-ghost use Rattle.sap_macro.specs.WrittenRuns.{StartsWith};
+ghost use Rattle.sap_macro.specs.Written.{Written, Definition};
+ghost use Rattle.sap_macro.specs.WrittenRuns.{IsWrittenTrace, StartsWith};
 
-/// A law: for now.
-pub fn what_is_written_runs_as_its_expansion()
-    ensures { nil ≡ nil }
-{}
+use sap_process::instances_of_processes;
+use sap_rewrite::{equality_is_kept, normal_forms_are_unique};
+
+/// A law: each trace of a process as it is written, where a use runs as its definition's instance by the arguments, is one of its
+/// expansion, whatever names are taken beside those that it binds: of definitions in order, where the process uses what it binds alone,
+/// and binds nothing again, and so do the definitions that it comes to use, but for their parameters.
+pub fn written_traces_are_expansions()
+    ensures { (g : Sig) (names : List (List ℕ)) (ds : List Definition) (p : Written) (taken : List (List ℕ)) (tr : Trace)
+        → AreInOrder [] ds → AreClosedAmong names ds → UsesOnly names p → IsClosed [] p → AreTaken taken [] p
+        → IsWrittenTrace g ds p tr → IsProcessTrace g (expanded (meaning_of ds) unchanged same_name p taken).process tr }
+{
+    equality_is_kept();
+    normal_forms_are_unique();
+    instances_of_processes();
+}
+
+/// A law: each trace of the expansion of a process is one of the process as it is written, where each name in it is defined, and as
+/// above.
+pub fn expansions_traces_are_written()
+    ensures { (g : Sig) (names : List (List ℕ)) (ds : List Definition) (p : Written) (taken : List (List ℕ)) (tr : Trace)
+        → AreInOrder [] ds → AreClosedAmong names ds → UsesOnly names p → UsesOnly (defined ds) p → IsClosed [] p → AreTaken taken [] p
+        → IsProcessTrace g (expanded (meaning_of ds) unchanged same_name p taken).process tr → IsWrittenTrace g ds p tr }
+{
+    equality_is_kept();
+    normal_forms_are_unique();
+    instances_of_processes();
+}
 
 /// A law: of definitions of which none uses itself or a later one, and no two have one name, what is written starts with one head at
 /// most, and with one where each name in it is defined.
