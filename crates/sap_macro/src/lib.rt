@@ -28,4 +28,4 @@ pub use laws::{
 pub use seeing::seen;
 pub use sizes::{Size, expanded_size};
 pub use source::{Doing, Source};
-pub use written_laws::{expansions_traces_are_written, written_heads_are_one, written_traces_are_expansions};
+pub use written_laws::{what_is_written_runs_as_its_expansion, written_heads_are_one};
