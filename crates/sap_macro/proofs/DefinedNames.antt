@@ -1,5 +1,5 @@
 -- Of some names, those that are defined: what is closed among the names is closed among these.
-use Rattle.std.proofs.Common.{◌≡◌, ℕ, true, false, List, [], ◌∷◌, sym, subst, ⊎_elim}
+use Rattle.std.proofs.Common.{◌≡◌, ℕ, true, List, [], ◌∷◌, sym, subst, ⊎_elim}
 use Rattle.std.proofs.lemmas.Bool.{false≢true}
 use Rattle.std.specs.Prelude.{if◌then◌else◌}
 use Rattle.sap_terms.specs.Variables.{is_known}
@@ -21,18 +21,18 @@ is_in_both [] others f h k = absurd (false≢true h)
 is_in_both (x ∷ names) others f h k =
     either_way (λ ns. is_known ns f ≡ true) (is_known others x) (x ∷ in_both names others) (in_both names others)
     (λ e.
-        ⊎_elim (λ s. subst (λ z. is_known (x ∷ in_both names others) z ≡ true) s (in_head x (in_both names others)))
-        (λ l. in_tail f x (in_both names others) (is_in_both names others f l k)) (in_cases f x names h))
+    ⊎_elim (λ s. subst (λ z. is_known (x ∷ in_both names others) z ≡ true) s (in_head x (in_both names others)))
+    (λ l. in_tail f x (in_both names others) (is_in_both names others f l k)) (in_cases f x names h))
     (λ e.
-        ⊎_elim (λ s. clash (is_known others x) (subst (λ z. is_known others z ≡ true) (sym s) k) e) (λ l. is_in_both names others f l k) (in_cases f x names h))
+    ⊎_elim (λ s. clash (is_known others x) (subst (λ z. is_known others z ≡ true) (sym s) k) e) (λ l. is_in_both names others f l k) (in_cases f x names h))
 
 pub among_first : (names others : List (List ℕ)) (f : List ℕ) → is_known (in_both names others) f ≡ true → is_known names f ≡ true
 among_first [] others f = λ h. absurd (false≢true h)
 among_first (x ∷ names) others f =
     either_way (λ ns. is_known ns f ≡ true → is_known (x ∷ names) f ≡ true) (is_known others x) (x ∷ in_both names others) (in_both names others)
     (λ e h.
-        ⊎_elim (λ s. subst (λ z. is_known (x ∷ names) z ≡ true) s (in_head x names)) (λ l. in_tail f x names (among_first names others f l))
-        (in_cases f x (in_both names others) h))
+    ⊎_elim (λ s. subst (λ z. is_known (x ∷ names) z ≡ true) s (in_head x names)) (λ l. in_tail f x names (among_first names others f l))
+    (in_cases f x (in_both names others) h))
     (λ e h. in_tail f x names (among_first names others f h))
 
 pub among_second : (names others : List (List ℕ)) (f : List ℕ) → is_known (in_both names others) f ≡ true → is_known others f ≡ true
@@ -54,13 +54,14 @@ uses_both names others (lookup t x p q) h k = (uses_both names others p h.0 k.0,
 closed_both : (names others : List (List ℕ)) (ds : List Definition) (known : List (List ℕ)) → AreInOrder known ds → ((f : List ℕ) → is_known known f ≡ true → is_known others f ≡ true)
     → ((f : List ℕ) → is_known (defined ds) f ≡ true → is_known others f ≡ true) → AreClosedAmong names ds → AreClosedAmong (in_both names others) ds
 closed_both names others [] known h before there all = tt
-closed_both names others (d ∷ ds) known h before there all =
-    (λ k.
-        let own = all.0 (among_first names others d.name k) in
-        (own.0, uses_both names others d.body own.1 (uses_more known others before d.body h.1.0)),
-    closed_both names others ds (d.name ∷ known) h.1.1
-    (λ f k. ⊎_elim (λ s. subst (λ z. is_known others z ≡ true) s (there d.name (in_head d.name (defined ds)))) (λ l. before f l) (in_cases f d.name known k))
-    (λ f k. there f (in_tail f d.name (defined ds) k)) all.1)
+closed_both names others (d ∷ ds) known h before there all = (
+  λ k.
+      let own = all.0 (among_first names others d.name k) in
+      (own.0, uses_both names others d.body own.1 (uses_more known others before d.body h.1.0)),
+  closed_both names others ds (d.name ∷ known) h.1.1
+      (λ f k. ⊎_elim (λ s. subst (λ z. is_known others z ≡ true) s (there d.name (in_head d.name (defined ds)))) (λ l. before f l) (in_cases f d.name known k))
+      (λ f k. there f (in_tail f d.name (defined ds) k)) all.1,
+)
 
 -- definitions in order use names alone that are defined
 pub closed_among_defined : (names : List (List ℕ)) (ds : List Definition) → AreInOrder [] ds → AreClosedAmong names ds → AreClosedAmong (in_both names (defined ds)) ds

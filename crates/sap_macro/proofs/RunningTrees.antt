@@ -10,7 +10,6 @@ use Rattle.sap_terms.specs.Normal.{IsNormalForm}
 use Rattle.sap_terms.specs.Signature.{Sig}
 use Rattle.sap_terms.specs.Tree.{Tree, variable, public, fresh, apply, Trees, none, more, trees_of}
 use Rattle.sap_terms.specs.Variables.{is_known, tree_vars, trees_vars}
-use Rattle.sap_terms.specs.declared.fact.Fact.{Fact}
 use Rattle.sap_terms.specs.declared.var.Var.{Var}
 use Rattle.sap_process.specs.Action as action
 use Rattle.sap_process.specs.Action.{Action, new, out, input}
@@ -20,7 +19,7 @@ use Rattle.sap_process.specs.Head.{Head}
 use Rattle.sap_process.specs.Instance.{process_instance}
 use Rattle.sap_process.specs.Proc as whole
 use Rattle.sap_process.specs.Proc.{Proc}
-use Rattle.sap_process.specs.ProcessSteps.{ProcessStep, chosen}
+use Rattle.sap_process.specs.ProcessSteps.{chosen}
 use Rattle.sap_process.specs.Sites.{var_names}
 use Rattle.sap_macro.specs.Expansion.{Expanded, binders, binding, binding_vars, bound_by, bound_in, behind, entered, expanded, meaning_of, put, same_name, scope_behind, unchanged}
 use Rattle.sap_macro.specs.Instances.{IsOverScope, IsClosed, AreClosedAmong, AreTaken, Keeps, instance_by, written_instance}
@@ -33,7 +32,7 @@ use Rattle.sap_macro.proofs.Closed.{Split, binders_rest, closed_rest}
 use Rattle.sap_macro.proofs.Commuting.{taken_grows}
 use Rattle.sap_macro.proofs.Continuing.{closed_here, taken_here}
 use Rattle.sap_macro.proofs.Definitions.{known_of}
-use Rattle.sap_macro.proofs.Following.{AlikeThread, both_ended, both_run, AlikeThreads, no_thread, one_thread, follows}
+use Rattle.sap_macro.proofs.Following.{AlikeThread, both_ended, both_run, AlikeThreads, no_thread, one_thread}
 use Rattle.sap_macro.proofs.Joined.{one_behind_other}
 use Rattle.sap_macro.proofs.Kept.{each_kept, action_kept, kept}
 use Rattle.sap_macro.proofs.OrderedMeanings.{closed_body, instance_among, means, steady_of}
@@ -81,6 +80,7 @@ module _ (d : Definition) (ts : List Tree) (closed : IsClosed d.params d.body) (
         subst (λ ns. is_known ns x ≡ true)
         (binders_rest (put d.params ts unchanged) d.params (λ v k. put_ground d.params ts v known k) (λ v k. put_other d.params ts unchanged v k) d.params [] d.body params_split closed) h;
   }
+
 -- definitions in order, of which those of these names are closed, and a signature
 pub record Setting : Type 0 where
   pub names : List (List ℕ)
@@ -236,7 +236,7 @@ module _ (S : Setting) where
   chosen_rest σ vs q taken messages closed uses own all_taken =
       let next = written_instance (chosen σ vs) q in
       let ready : IsReady next taken =
-          record { closed = closed_here σ vs messages q taken closed own; uses = instance_uses names (chosen σ vs) q uses; own = taken_here σ vs messages q taken closed own all_taken } in
+      record { closed = closed_here σ vs messages q taken closed own; uses = instance_uses names (chosen σ vs) q uses; own = taken_here σ vs messages q taken closed own all_taken } in
       subst (λ z. RunsAs next z) (instance_among names ds all σ vs messages q taken uses closed own) (itself_expanded next taken ready)
 
   -- names of a pattern that nothing above binds are taken
@@ -255,7 +255,7 @@ module _ (S : Setting) where
   found_rest m y v p q taken ground r =
       let rest = binders (v.name ∷ []) p ++ binders [] q in
       let own : Among (var_names (v ∷ [])) taken =
-          λ z i. ⊎_elim (λ j. subst (λ n. is_known taken n ≡ true) j (r.own.holds v.name (in_head v.name rest))) (λ j. absurd (false≢true j)) (in_cases z v.name [] i) in
+      λ z i. ⊎_elim (λ j. subst (λ n. is_known taken n ≡ true) j (r.own.holds v.name (in_head v.name rest))) (λ j. absurd (false≢true j)) (in_cases z v.name [] i) in
       chosen_rest (λ z. y) (v ∷ []) p taken (λ z. ground) r.closed.1.1.0 r.uses.0 own
       (record { holds = λ z i. r.own.holds z (in_tail z v.name rest (in_left (binders (v.name ∷ []) p) (binders [] q) z i)) })
 

@@ -126,8 +126,8 @@ module _ (ds : List Definition) where
   one_known known d c u all (call f ts) h =
       ⊎_elim
       (λ e.
-          let r = all (instance_by d ts) (instance_uses known (put d.params ts unchanged) d.body u) in
-          (r.0, subst (λ z. StartsWith ds (call z ts) r.0) e (use_of d c r.1)))
+      let r = all (instance_by d ts) (instance_uses known (put d.params ts unchanged) d.body u) in
+      (r.0, subst (λ z. StartsWith ds (call z ts) r.0) e (use_of d c r.1)))
       (λ l. all (call f ts) l) (in_cases f d.name known h)
   one_known known d c u all (parallel p q) h = (head.parallel p q, itself (head.parallel p q))
   one_known known d c u all (replicated p) h = (head.replicated p, itself (head.replicated p))
