@@ -34,3 +34,6 @@ pub mod OrderedMeanings
 pub mod RunningTrees
 pub mod WrittenSteps
 pub mod WrittenTraces
+pub mod WrittenHeads
+pub mod DefinedNames
+pub mod WrittenBack

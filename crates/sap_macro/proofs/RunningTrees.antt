@@ -10,7 +10,6 @@ use Rattle.sap_terms.specs.Normal.{IsNormalForm}
 use Rattle.sap_terms.specs.Signature.{Sig}
 use Rattle.sap_terms.specs.Tree.{Tree, variable, public, fresh, apply, Trees, none, more, trees_of}
 use Rattle.sap_terms.specs.Variables.{is_known, tree_vars, trees_vars}
-use Rattle.sap_terms.specs.declared.fact.Fact.{Fact}
 use Rattle.sap_terms.specs.declared.var.Var.{Var}
 use Rattle.sap_process.specs.Action as action
 use Rattle.sap_process.specs.Action.{Action, new, out, input}
@@ -20,7 +19,7 @@ use Rattle.sap_process.specs.Head.{Head}
 use Rattle.sap_process.specs.Instance.{process_instance}
 use Rattle.sap_process.specs.Proc as whole
 use Rattle.sap_process.specs.Proc.{Proc}
-use Rattle.sap_process.specs.ProcessSteps.{ProcessStep, chosen}
+use Rattle.sap_process.specs.ProcessSteps.{chosen}
 use Rattle.sap_process.specs.Sites.{var_names}
 use Rattle.sap_macro.specs.Expansion.{Expanded, binders, binding, binding_vars, bound_by, bound_in, behind, entered, expanded, meaning_of, put, same_name, scope_behind, unchanged}
 use Rattle.sap_macro.specs.Instances.{IsOverScope, IsClosed, AreClosedAmong, AreTaken, Keeps, instance_by, written_instance}
@@ -33,7 +32,7 @@ use Rattle.sap_macro.proofs.Closed.{Split, binders_rest, closed_rest}
 use Rattle.sap_macro.proofs.Commuting.{taken_grows}
 use Rattle.sap_macro.proofs.Continuing.{closed_here, taken_here}
 use Rattle.sap_macro.proofs.Definitions.{known_of}
-use Rattle.sap_macro.proofs.Following.{AlikeThread, both_ended, both_run, AlikeThreads, no_thread, one_thread, follows}
+use Rattle.sap_macro.proofs.Following.{AlikeThread, both_ended, both_run, AlikeThreads, no_thread, one_thread}
 use Rattle.sap_macro.proofs.Joined.{one_behind_other}
 use Rattle.sap_macro.proofs.Kept.{each_kept, action_kept, kept}
 use Rattle.sap_macro.proofs.OrderedMeanings.{closed_body, instance_among, means, steady_of}

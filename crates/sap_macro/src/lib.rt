@@ -30,4 +30,4 @@ pub use laws::{
 pub use seeing::seen;
 pub use sizes::{Size, expanded_size};
 pub use source::{Doing, Source};
-pub use written_laws::written_traces_are_expansions;
+pub use written_laws::{what_is_written_runs_as_its_expansion, written_heads_are_one};
