@@ -56,11 +56,17 @@ module _ (σ : Choice) (vs : List Var) (ground : (v : Var) → IsGround (σ v)) 
         (cases_Bool (is_known (scope_behind [] vs) x));
   }
 
-  module _ (m : Meaning) (steady : IsSteady m) (commuting : Commutes m) (w : Written) (taken : List (List ℕ)) (closed : IsClosed (scope_behind [] vs) w)
-      (own : Among (var_names vs) taken) where
+  module _ (w : Written) (taken : List (List ℕ)) (closed : IsClosed (scope_behind [] vs) w) (own : Among (var_names vs) taken) where
+    pub closed_here : IsClosed [] (written_instance here w)
+    closed_here = closed_rest here (var_names vs) grounds leaves (scope_behind [] vs) [] w split closed
+
+    pub taken_here : AreTaken taken (scope_behind [] vs) w → AreTaken taken [] (written_instance here w)
+    taken_here t = record { holds = λ x h. t.holds x (subst (λ ns. is_known ns x ≡ true) (binders_rest here (var_names vs) grounds leaves (scope_behind [] vs) [] w split closed) h) }
+
     -- the expansion of the instance is the instance of the expansion
-    pub instance_of_expansion : (expanded m unchanged same_name (written_instance here w) taken).process ≡ process_instance here (expanded m unchanged same_name w taken).process
-    instance_of_expansion =
+    pub instance_of_expansion : (m : Meaning) → IsSteady m → Commutes m
+        → (expanded m unchanged same_name (written_instance here w) taken).process ≡ process_instance here (expanded m unchanged same_name w taken).process
+    instance_of_expansion m steady commuting =
         let K = scope_behind [] vs in
         let not_gone : (x : List ℕ) → is_known K x ≡ false → is_known (var_names vs) x ≡ false =
         λ x h. ⊎_elim (λ e. clash (is_known K x) (known_of vs K x (over_behind [] vs) e) h) (λ e. e) (cases_Bool (is_known (var_names vs) x)) in
@@ -68,9 +74,3 @@ module _ (σ : Choice) (vs : List Var) (ground : (v : Var) → IsGround (σ v)) 
         let moved = commuted m steady commuting here unchanged here same_name (binders K w) (λ v i. refl)
         (λ x s i. leaves (named x s) (not_gone x (binder_is_new K w closed x i))) K w taken closed (λ x i. i) (λ v i. refl) keeps in
         ap (λ (e : Expanded). e.process) (at_once m here w taken) ∙ sym moved
-
-    pub closed_here : IsClosed [] (written_instance here w)
-    closed_here = closed_rest here (var_names vs) grounds leaves (scope_behind [] vs) [] w split closed
-
-    pub taken_here : AreTaken taken (scope_behind [] vs) w → AreTaken taken [] (written_instance here w)
-    taken_here t = record { holds = λ x h. t.holds x (subst (λ ns. is_known ns x ≡ true) (binders_rest here (var_names vs) grounds leaves (scope_behind [] vs) [] w split closed) h) }

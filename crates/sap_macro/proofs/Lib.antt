@@ -1,4 +1,5 @@
 pub mod ByHand
+pub mod WrittenByHand
 pub mod Names
 pub mod Moving
 pub mod Choosing
@@ -30,4 +31,10 @@ pub mod Definitions
 pub mod SortedScopes
 pub mod Closed
 pub mod Continuing
-pub mod Simulated
+pub mod OrderedMeanings
+pub mod RunningTrees
+pub mod WrittenSteps
+pub mod WrittenTraces
+pub mod WrittenHeads
+pub mod DefinedNames
+pub mod WrittenBack

@@ -31,7 +31,7 @@ closed_of names (d ∷ ds) h =
 abbrev pub Agree : List (List ℕ) → Meaning → Meaning → Type 0
 Agree names m n = (f : List ℕ) (ts : List Tree) (taken : List (List ℕ)) → is_known names f ≡ true → m f ts taken ≡ n f ts taken
 
-entered_agree : (names : List (List ℕ)) (m n : Meaning) (d : Definition) → UsesOnly names d.body → Agree names m n → (ts : List Tree) (taken : List (List ℕ))
+pub entered_agree : (names : List (List ℕ)) (m n : Meaning) (d : Definition) → UsesOnly names d.body → Agree names m n → (ts : List Tree) (taken : List (List ℕ))
     → entered m d ts taken ≡ entered n d ts taken
 entered_agree names m n d h e ts taken =
     let own = own_names d in
@@ -54,7 +54,7 @@ agree_after (d ∷ ds) names m n h e =
     (λ s. agree_after ds names (with_definition m d) n h.1 (without_other names m n d s e))
 
 -- an instance uses what is used
-instance_uses : (names : List (List ℕ)) (σ : Choice) (w : Written) → UsesOnly names w → UsesOnly names (written_instance σ w)
+pub instance_uses : (names : List (List ℕ)) (σ : Choice) (w : Written) → UsesOnly names w → UsesOnly names (written_instance σ w)
 instance_uses names σ nil h = tt
 instance_uses names σ (call f ts) h = h
 instance_uses names σ (parallel p q) h = (instance_uses names σ p h.0, instance_uses names σ q h.1)

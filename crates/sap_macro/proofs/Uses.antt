@@ -161,7 +161,8 @@ module _ (m : Meaning) (steady : IsSteady m) where
         right_names = λ x i. o.holds x (once_is [] (binders d.params d.body) x i);
       })
 
-record AllHold (m : Meaning) : Type 0 where
+-- what a meaning has where definitions are closed
+pub record AllHold (m : Meaning) : Type 0 where
   pub steady : IsSteady m
   pub commutes : Commutes m
   pub respects : Respects m
@@ -172,7 +173,7 @@ holds_after m (d ∷ ds) closed h =
     holds_after (with_definition m d) ds closed.1
     (record { steady = steady_with m h.steady d; commutes = commutes_with m h.steady h.commutes d closed.0; respects = respects_with m h.steady h.respects d closed.0 })
 
-all_hold : (ds : List Definition) → AreClosed ds → AllHold (meaning_of ds)
+pub all_hold : (ds : List Definition) → AreClosed ds → AllHold (meaning_of ds)
 all_hold ds closed =
     holds_after no_meaning ds closed
     (record {

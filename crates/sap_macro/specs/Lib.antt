@@ -10,6 +10,7 @@ pub mod Instances
 pub mod UsesAreInstances
 pub mod WrittenRuns
 pub mod SortedExamples
+pub mod WrittenExamples
 pub mod Sources
 pub mod Order
 pub mod Indexed

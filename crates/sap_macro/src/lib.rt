@@ -18,7 +18,9 @@ mod standing;
 mod written_laws;
 
 pub use building::build;
-pub use by_hand::{equal_up_to_names_by_hand, expansions_by_hand, macro_causes_by_hand};
+pub use by_hand::{
+    equal_up_to_names_by_hand, expansions_by_hand, macro_causes_by_hand, written_runs_by_hand,
+};
 pub use definition::{Definition, DefinitionList};
 pub use index::{Index, definition_named, index_of};
 pub use laws::{
@@ -33,4 +35,4 @@ pub use sorting_laws::{
     sorts_are_exchanged,
 };
 pub use source::{Doing, Source};
-pub use written_laws::what_is_written_runs_as_its_expansion;
+pub use written_laws::{what_is_written_runs_as_its_expansion, written_heads_are_one};
