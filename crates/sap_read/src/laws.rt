@@ -1,9 +1,11 @@
 //! Laws of files, as contracts of functions that do nothing but call those below.
-ghost use Rattle.std.specs.Prelude.{◌≡◌, ◌⊎◌, ◌≤◌, ◌^◌, ℕ, List, None, Some, Result, Ok, Err, length};
+ghost use Rattle.std.specs.Prelude.{◌≡◌, ◌↔◌, ◌⊎◌, ◌≤◌, ◌^◌, ℕ, List, None, Some, Result, Ok, Err, length};
 ghost use Rattle.sap_terms.specs.declared.fact.Fact.{Fact};
 ghost use Rattle.sap_terms.specs.Tree.{Tree, level_count};
 ghost use Rattle.sap_text.specs.declared.token.Token.{Token};
 ghost use Rattle.sap_terms.specs.Signature.{Sig};
+ghost use Rattle.sap_terms.specs.Trace.{Trace};
+ghost use Rattle.sap_locks.specs.Annotation.{IsAnnotation, unlabelled};
 ghost use Rattle.sap_grammar.specs.Words.{Word, words_of};
 ghost use Rattle.sap_grammar.specs.TermGrammar.{IsTerm};
 ghost use Rattle.sap_grammar.specs.FactGrammar.{IsFact, fact_levels};
@@ -15,6 +17,7 @@ ghost use Rattle.sap_read.specs.AsWritten.{FilesShowAsWritten, IsWrittenAs};
 ghost use Rattle.sap_read.specs.Causes.{cause_of};
 ghost use Rattle.sap_read.specs.FileProcess.{definitions_of, main_of, process_of, IsExpanded};
 ghost use Rattle.sap_process.specs.Proc.{Proc};
+ghost use Rattle.sap_process.specs.ProcessSteps.{IsProcessTrace};
 ghost use Rattle.sap_draft.specs.ProcessGrammar.{IsPar};
 ghost use Rattle.sap_grammar.specs.Cut.{Placed, IsCut};
 ghost use Rattle.sap_read.specs.ItemGrammar.{AreItems};
@@ -43,7 +46,7 @@ use sap_grammar::{item_laws, same_grammar, words_of_bytes};
 use sap_locks::{annotations_are_ready, annotations_of_processes};
 use sap_macro::{
     expansions_are_one, new_names_are_least, new_names_are_short, plain_files_stay,
-    plain_uses_have_parameters, sizes_are_one,
+    plain_uses_have_parameters, same_up_to_names_show_the_same, sizes_are_one,
 };
 use sap_process::{one_flaw, some_flaw, sorting_keeps};
 use sap_statements::{
@@ -206,6 +209,20 @@ pub fn file_processes_are_one()
         → process_of other bs ≡ Some q → AreSameUpToNames p q }
 {
     expansions_are_one();
+}
+
+/// A law: labels show nothing. A well-formed process is the same up to names as it is without labels; so each of its traces is one of
+/// its annotation, and each of that is one of its own.
+pub fn labels_show_nothing()
+    ensures names { (g : Sig) (p : Proc) → IsWellFormed g p → AreSameUpToNames p (unlabelled p) }
+    ensures traces { (g : Sig) (p q : Proc) (tr : Trace) → IsWellFormed g p → IsAnnotation p q
+        → IsProcessTrace g p tr ↔ IsProcessTrace g q tr }
+{
+    expansions_are_one();
+    plain_files_stay();
+    unflawed_bodies_are_closed();
+    same_up_to_names_show_the_same();
+    annotations_are_ready();
 }
 
 /// A law: the words behind a header are cut into items in one way, and spell at most one list of items, under a signature and
