@@ -14,7 +14,7 @@ use Rattle.sap_process.specs.Instance.{action_instance}
 use Rattle.sap_process.specs.ProcessSteps.{ProcessRun}
 use Rattle.sap_process.specs.Sites.{bound_by, message_var}
 use Rattle.sap_process.specs.Sorted.{binding_fresh, by_binder}
-use Rattle.sap_macro.specs.Expansion.{behind}
+use Rattle.sap_macro.specs.Expansion.{behind, plain, plain_bodies}
 use Rattle.sap_macro.specs.Instances.{IsOverScope, instance_by, written_instance}
 use Rattle.sap_macro.specs.UpToNames.{named}
 use Rattle.sap_macro.specs.Written.{Written, nil, call, parallel, replicated, act, test, lookup, Definition}
@@ -79,3 +79,9 @@ HasArgumentsInScope scope (act a p) = HasArgumentsInScope (behind scope a) p
 HasArgumentsInScope scope (test t u p q) = HasArgumentsInScope scope p × HasArgumentsInScope scope q
 HasArgumentsInScope scope (lookup t x p q) =
     HasArgumentsInScope (x.name ∷ scope) p × HasArgumentsInScope scope q
+
+-- some run of a file's process, as it is written and with the sorts of its binders, has this trace: names without parameters are
+-- replaced before anything runs, and the body of each definition has its sorts where its parameters are messages
+abbrev pub IsFileTrace : Sig → List Definition → Written → Trace → Type 0
+IsFileTrace g ds p tr =
+    IsWrittenTrace g (map sorted_definition (plain_bodies call ds)) (sorted [] (plain ds p)) tr

@@ -128,7 +128,7 @@ module _ (laws : ItemLaws) (stated : StatementLaws) (processes : ProcessLaws)
   module _
       (closed_uses : (g : Sig) (names : List (List ℕ)) (is : List Standing) (p : Proc) → cause_of is ≡ None → IsExpanded g names (bodies is) p → HasClosedUses (bodies is))
       (held : (z : List ℕ) (ts : List Token) (x : List ℕ) (cut : List (List Placed)) (is : List Standing) → IsParted z ts x cut → AreItems (signature_of is) cut is
-          → HoldsFileVariables (identifiers_of (words_of z ts)) (bodies is))
+      → HoldsFileVariables (identifiers_of (words_of z ts)) (bodies is))
       (laws_of : WrittenLaws) where
     -- what is written runs as what is read does, before that has labels
     runs : (g : Sig) (names taken : List (List ℕ)) (ds : List Definition) (p : Written) (tr : Trace) → AreInOrder [] ds → UsesOnly (defined ds) p → UsesOnly names (plain ds p)
