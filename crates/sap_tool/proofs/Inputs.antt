@@ -3,7 +3,6 @@ use Rattle.std.proofs.Common.{◌≡◌, ◌+◌, ℕ, List, take, Option, Some,
 use Rattle.std.specs.Prelude.{Ok, All}
 use Rattle.std.specs.FinMap as files
 use Rattle.sap_terms.specs.Signature.{HoldsBuiltins}
-use Rattle.sap_macro.specs.UsesAreInstances.{UsesAreInstances}
 use Rattle.sap_read.specs.Files.{FileContent}
 use Rattle.sap_rule.specs.WellMade.{IsWellMade}
 use Rattle.sap_rule.specs.declared.theory.Theory.{Theory}
@@ -27,6 +26,7 @@ use Rattle.sap_replay.specs.Tasks.{kinds_of}
 use Rattle.sap_replay.specs.declared.task.Task.{Task}
 use Rattle.sap_replay.specs.ShortRuns.{IsShortRefusedWith}
 use Rattle.sap_replay.specs.RunRefusals.{IsIllegal, IsIllegalOfTheory, IsNeverIllegal, IsRunRefusedWith}
+use Rattle.sap_tool.proofs.AsWritten.{AreShownAsWritten, shown_as_written}
 use Rattle.sap_tool.proofs.AtOnce.{OnePage}
 use Rattle.sap_tool.proofs.Sound.{IsShown, IsSound, on_alone, on_both, on_run, alone_two, both_two, run_two, alone_whole, both_whole, run_whole, alone_as_read, both_as_read, run_as_read, alone_as_held, both_as_held, run_as_held}
 use Rattle.sap_tool.specs.AcceptedRuns.{IsFilledText, IsLegalFilling}
@@ -49,7 +49,7 @@ pub record Laws : Type 0 where
   pub runnable : Runnable
   pub printed : (z : List ℕ) (f : FileContent) → IsAcceptedFile z f → IsPrintableFile MOST_FILE_NAME_BYTES MOST_NEW_NAME_BYTES f
   pub writing : Writing
-  pub instances : UsesAreInstances
+  pub as_written : AreShownAsWritten
   pub one_compiled : OneCompiled
   pub one : OneReading
   pub one_theory : OneTheory
@@ -101,7 +101,7 @@ compiling_is laws way file = record {
     layout = t.layout;
     compiled = t.compiled;
     keeps = laws.keeping way t.told t.theory (laws.runnable bytes t.told t.file.read) t.compiled;
-    instances = laws.instances;
+    as_written = shown_as_written laws.as_written bytes t.told t.file.read;
   }) input;
   never_taken = λ input why t r. absurd r;
   one_run_why = λ input why other r s. absurd r;

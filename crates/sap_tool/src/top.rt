@@ -12,10 +12,11 @@ use sap_gen::{
     theories_are_printable, theories_keep_files,
 };
 use sap_intruder::filled_runs_are_legal;
-use sap_macro::uses_show_their_instances;
 use sap_outside::{Shelf, Sink};
 use sap_pages::one_page;
-use sap_read::{files_are_printable, files_are_runnable, one_file};
+use sap_read::{
+    files_are_printable, files_are_runnable, files_show_as_they_are_written, one_file,
+};
 use sap_replay::{
     legal_runs_are_not_refused, read_theories_can_run, refused_runs_have_one_cause,
     texts_mean_what_they_say,
@@ -56,7 +57,7 @@ pub fn sapic<S: Shelf, O: Sink, E: Sink>(
     printed_theories();
     files_are_runnable();
     files_are_printable();
-    uses_show_their_instances();
+    files_show_as_they_are_written();
     one_file();
     one_answer_of_theories();
     read_theories_can_run();

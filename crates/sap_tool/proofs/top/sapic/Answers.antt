@@ -13,7 +13,7 @@ returns g c =
           let can = printable_in_each_way c.theories_are_printable.ensures.plain c.theories_are_printable.ensures.inlined c.short_theories_are_printable.ensures
           way told t (c.files_are_runnable.ensures z told file.read) (printable_file c.files_are_printable.ensures z told file) is in
           record { spelled = c.printed_theories.ensures.printable _ _ can; no_other = λ u. c.printed_theories.ensures.no_other _ _ u can };
-      instances = c.uses_show_their_instances.ensures;
+      as_written = record { written = c.files_show_as_they_are_written.ensures.written; shows = c.files_show_as_they_are_written.ensures.shows };
       one_compiled = one_compiled c.one_short_theory.ensures.one;
       one = c.one_file.ensures;
       one_theory = c.one_answer_of_theories.ensures;
