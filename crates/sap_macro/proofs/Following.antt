@@ -302,7 +302,7 @@ module _ (g : Sig) (ground_form : (t n : Tree) → IsGround t → IsNormalForm (
 
 module _ (g : Sig) (ground_form : (t n : Tree) → IsGround t → IsNormalForm (equations g) t n → IsGround n) where
   -- each step is followed
-  follows : (c d : Config) (label : List Fact) (us : List (Option Proc)) → ProcessStep g c label d → AlikeThreads c.threads us → HasGroundStore c → Follows g c us label d
+  pub follows : (c d : Config) (label : List Fact) (us : List (Option Proc)) → ProcessStep g c label d → AlikeThreads c.threads us → HasGroundStore c → Follows g c us label d
   follows _ _ _ us (ends {c = c} t r) w s = let f = found c.threads us w t nil r in ended g ground_form c us w s t f.0 f.1 f.2
   follows _ _ _ us (splits {c = c} {p = p} {q = q} t r) w s = let f = found c.threads us w t (parallel p q) r in split g ground_form c us w s t p q f.0 f.1 f.2
   follows _ _ _ us (copies {c = c} {p = p} t r) w s = let f = found c.threads us w t (replicated p) r in copied g ground_form c us w s t p f.0 f.1 f.2

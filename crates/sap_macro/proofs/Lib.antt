@@ -1,4 +1,5 @@
 pub mod ByHand
+pub mod WrittenByHand
 pub mod Names
 pub mod Moving
 pub mod Choosing
@@ -23,3 +24,17 @@ pub mod Sized
 pub mod Watched
 pub mod Replacing
 pub mod SameSizes
+pub mod Joined
+pub mod Sorting
+pub mod Exchange
+pub mod Definitions
+pub mod SortedScopes
+pub mod Closed
+pub mod Continuing
+pub mod OrderedMeanings
+pub mod RunningTrees
+pub mod WrittenSteps
+pub mod WrittenTraces
+pub mod WrittenHeads
+pub mod DefinedNames
+pub mod WrittenBack

@@ -22,16 +22,16 @@ abbrev pub of_names : List (List ℕ) → List Definition → List Definition
 of_names names [] = []
 of_names names (d ∷ ds) = if is_known names d.name then (d ∷ of_names names ds) else of_names names ds
 
-closed_of : (names : List (List ℕ)) (ds : List Definition) → AreClosedAmong names ds → AreClosed (of_names names ds)
+pub closed_of : (names : List (List ℕ)) (ds : List Definition) → AreClosedAmong names ds → AreClosed (of_names names ds)
 closed_of names [] h = tt
 closed_of names (d ∷ ds) h =
     either_way AreClosed (is_known names d.name) (d ∷ of_names names ds) (of_names names ds) (λ e. ((h.0 e).0, closed_of names ds h.1)) (λ e. closed_of names ds h.1)
 
 -- what names mean by all definitions, and by those of these names
-abbrev Agree : List (List ℕ) → Meaning → Meaning → Type 0
+abbrev pub Agree : List (List ℕ) → Meaning → Meaning → Type 0
 Agree names m n = (f : List ℕ) (ts : List Tree) (taken : List (List ℕ)) → is_known names f ≡ true → m f ts taken ≡ n f ts taken
 
-entered_agree : (names : List (List ℕ)) (m n : Meaning) (d : Definition) → UsesOnly names d.body → Agree names m n → (ts : List Tree) (taken : List (List ℕ))
+pub entered_agree : (names : List (List ℕ)) (m n : Meaning) (d : Definition) → UsesOnly names d.body → Agree names m n → (ts : List Tree) (taken : List (List ℕ))
     → entered m d ts taken ≡ entered n d ts taken
 entered_agree names m n d h e ts taken =
     let own = own_names d in
@@ -45,7 +45,7 @@ without_other names m n d h e f ts taken k =
     ap (λ b. if b then entered m d ts taken else m f ts taken) (apart d.name f (λ same. clash (is_known names f) k (sym (ap (is_known names) same) ∙ h)))
     ∙ e f ts taken k
 
-agree_after : (ds : List Definition) (names : List (List ℕ)) (m n : Meaning) → AreClosedAmong names ds → Agree names m n
+pub agree_after : (ds : List Definition) (names : List (List ℕ)) (m n : Meaning) → AreClosedAmong names ds → Agree names m n
     → Agree names (meaning_after m ds) (meaning_after n (of_names names ds))
 agree_after [] names m n h e = e
 agree_after (d ∷ ds) names m n h e =
@@ -54,7 +54,7 @@ agree_after (d ∷ ds) names m n h e =
     (λ s. agree_after ds names (with_definition m d) n h.1 (without_other names m n d s e))
 
 -- an instance uses what is used
-instance_uses : (names : List (List ℕ)) (σ : Choice) (w : Written) → UsesOnly names w → UsesOnly names (written_instance σ w)
+pub instance_uses : (names : List (List ℕ)) (σ : Choice) (w : Written) → UsesOnly names w → UsesOnly names (written_instance σ w)
 instance_uses names σ nil h = tt
 instance_uses names σ (call f ts) h = h
 instance_uses names σ (parallel p q) h = (instance_uses names σ p h.0, instance_uses names σ q h.1)

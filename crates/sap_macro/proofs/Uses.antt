@@ -29,18 +29,18 @@ AreClosed [] = Unit {0}
 AreClosed (d ∷ ds) = IsClosed d.params d.body × AreClosed ds
 
 -- a name that is no parameter
-put_other : (ys : List (List ℕ)) (ts : List Tree) (o : Choice) (v : Var) → is_known ys v.name ≡ false → put ys ts o v ≡ o v
+pub put_other : (ys : List (List ℕ)) (ts : List Tree) (o : Choice) (v : Var) → is_known ys v.name ≡ false → put ys ts o v ≡ o v
 put_other [] ts o v h = refl
 put_other (y ∷ ys) [] o v h =
     let k = not_in v.name y ys h in ap (λ z. if z then public [] else put ys [] o v) k.0 ∙ put_other ys [] o v k.1
 put_other (y ∷ ys) (t ∷ ts) o v h =
     let k = not_in v.name y ys h in ap (λ z. if z then t else put ys ts o v) k.0 ∙ put_other ys ts o v k.1
 
-later_param : (y : List ℕ) (ys : List (List ℕ)) (x : List ℕ) → is_known (y ∷ ys) x ≡ true → bytes_eq y x ≡ false → is_known ys x ≡ true
+pub later_param : (y : List ℕ) (ys : List (List ℕ)) (x : List ℕ) → is_known (y ∷ ys) x ≡ true → bytes_eq y x ≡ false → is_known ys x ≡ true
 later_param y ys x h e = ⊎_elim (λ f. absurd (two_names y x e f)) (λ k. k) (in_cases x y ys h)
 
 -- a parameter's argument under a choice
-put_instance : (σ : Choice) (ys : List (List ℕ)) (ts : List Tree) (o u : Choice) (v : Var) → is_known ys v.name ≡ true
+pub put_instance : (σ : Choice) (ys : List (List ℕ)) (ts : List Tree) (o u : Choice) (v : Var) → is_known ys v.name ≡ true
     → instance σ (put ys ts o v) ≡ put ys (map (instance σ) ts) u v
 put_instance σ [] ts o u v h = absurd (false≢true h)
 put_instance σ (y ∷ ys) [] o u v h =
@@ -76,14 +76,14 @@ put_alike ρ (y ∷ ys) (t ∷ ts) (w ∷ us) o u v (both_more a l) h =
 -- ---- what uses mean, definition by definition
 
 -- what the definition binds is among its own names, and no other is
-own_has : (d : Definition) → Among (binders d.params d.body) (own_names d)
+pub own_has : (d : Definition) → Among (binders d.params d.body) (own_names d)
 own_has d x h = ⊎_elim (λ e. absurd (false≢true e)) (λ k. k) (is_once [] (binders d.params d.body) x h)
 
-own_is_new : (d : Definition) → IsClosed d.params d.body → (x : List ℕ) → is_known (own_names d) x ≡ true → is_known d.params x ≡ false
+pub own_is_new : (d : Definition) → IsClosed d.params d.body → (x : List ℕ) → is_known (own_names d) x ≡ true → is_known d.params x ≡ false
 own_is_new d closed x h = binder_is_new d.params d.body closed x (once_is [] (binders d.params d.body) x h)
 
 module _ (m : Meaning) (steady : IsSteady m) where
-  steady_with : (d : Definition) → IsSteady (with_definition m d)
+  pub steady_with : (d : Definition) → IsSteady (with_definition m d)
   steady_with d = record {
     same = λ f ts us taken.
         let b = renamed taken (own_names d) in
@@ -161,7 +161,8 @@ module _ (m : Meaning) (steady : IsSteady m) where
         right_names = λ x i. o.holds x (once_is [] (binders d.params d.body) x i);
       })
 
-record AllHold (m : Meaning) : Type 0 where
+-- what a meaning has where definitions are closed
+pub record AllHold (m : Meaning) : Type 0 where
   pub steady : IsSteady m
   pub commutes : Commutes m
   pub respects : Respects m
@@ -172,7 +173,7 @@ holds_after m (d ∷ ds) closed h =
     holds_after (with_definition m d) ds closed.1
     (record { steady = steady_with m h.steady d; commutes = commutes_with m h.steady h.commutes d closed.0; respects = respects_with m h.steady h.respects d closed.0 })
 
-all_hold : (ds : List Definition) → AreClosed ds → AllHold (meaning_of ds)
+pub all_hold : (ds : List Definition) → AreClosed ds → AllHold (meaning_of ds)
 all_hold ds closed =
     holds_after no_meaning ds closed
     (record {
@@ -184,7 +185,7 @@ all_hold ds closed =
 -- ---- the instance as a process that is written
 
 -- to put terms and to expand is to expand with the terms
-at_once : (m : Meaning) (σ : Choice) (p : Written) (taken : List (List ℕ)) → expanded m unchanged same_name (written_instance σ p) taken ≡ expanded m σ same_name p taken
+pub at_once : (m : Meaning) (σ : Choice) (p : Written) (taken : List (List ℕ)) → expanded m unchanged same_name (written_instance σ p) taken ≡ expanded m σ same_name p taken
 at_once m σ nil taken = refl
 at_once m σ (call f ts) taken = ap (λ us. m f us taken) (each_kept (map (instance σ) ts))
 at_once m σ (parallel p q) taken =

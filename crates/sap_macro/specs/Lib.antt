@@ -8,6 +8,9 @@ pub mod ExpansionExamples
 pub mod Replaced
 pub mod Instances
 pub mod UsesAreInstances
+pub mod WrittenRuns
+pub mod SortedExamples
+pub mod WrittenExamples
 pub mod Sources
 pub mod Order
 pub mod Indexed

@@ -1,13 +1,24 @@
 //! Small processes by hand, as laws.
-ghost use Rattle.std.specs.Prelude.{◌≡◌, codes, [], ◌∷◌, None, Some};
-ghost use Rattle.sap_terms.specs.Tree.{public};
+ghost use Rattle.std.specs.Prelude.{◌≡◌, codes, List, [], ◌∷◌, None, Some};
+ghost use Rattle.sap_terms.specs.Signature.{Sig};
+ghost use Rattle.sap_terms.specs.Tree.{Tree, public};
+ghost use Rattle.sap_terms.specs.declared.fact.Fact.{Fact};
+ghost use Rattle.sap_process.specs.Action.{event, out};
+ghost use Rattle.sap_process.specs.Configuration.{ConfigOf, initial, spawns};
+ghost use Rattle.sap_process.specs.Head as head;
+ghost use Rattle.sap_process.specs.Head.{Head};
 ghost use Rattle.sap_process.specs.Proc as whole;
+ghost use Rattle.sap_process.specs.ProcessSteps.{ProcessStep};
 ghost use Rattle.sap_macro.specs.Expansion.{expansion};
 ghost use Rattle.sap_macro.specs.ExpansionExamples.{a, b, of_name, fresh_of, news, taking, makes, takes, gives, making, making_twice, making_x, comparing, pairing, giving_y, using_plain, inner, outer, all_forms, all_forms_put, twice_two, twice_z, using_wrongly, using_none, in_first, in_second};
 ghost use Rattle.sap_macro.specs.MacroCauses.{first_other_count, first_parameter_twice};
 ghost use Rattle.sap_macro.specs.NameExamples.{both, AreAllSame, AreNoneSame, equal_pairs, other_pairs};
 ghost use Rattle.sap_macro.specs.NewNames.{new_name};
-ghost use Rattle.sap_macro.specs.Written.{call, parallel};
+ghost use Rattle.sap_macro.specs.Written.{Written, nil, call, parallel};
+ghost use Rattle.sap_macro.specs.WrittenExamples.{told, telling, telling_x, telling_again, told_by_two, use_a, use_b, use_c};
+ghost use Rattle.sap_macro.specs.WrittenRuns.{StartsWith, IsWrittenTrace, writing};
+
+use sap_terms::leaves_are_normal;
 
 /// A law: eight pairs of processes that are equal up to names, and fourteen that aren't.
 pub fn equal_up_to_names_by_hand()
@@ -57,3 +68,26 @@ pub fn macro_causes_by_hand()
     ensures in_second { first_other_count (giving_y ∷ []) (in_second (call (codes "C") (a ∷ []))) ≡ Some (codes "C") }
     ensures right { first_other_count (giving_y ∷ using_plain ∷ []) (parallel (call (codes "A") (a ∷ [])) (call (codes "C") [])) ≡ None }
 {}
+
+/// A law: what starts with what, and how a use runs. With `let A(x) = event E(x)` and `let B(y) = A(<y,y>)` the use `A('a')` starts with
+/// the event alone, and `B('a')` with that of `<'a','a'>`; what nothing defines starts with nothing, and stays; each other form starts with
+/// itself alone. Parameters are replaced all at once. A use has no step of its own: where nothing is shown its thread is still the use, and
+/// the first that it shows is `E('a')`, behind which nothing is left. A replication stays a use, and its copy is the body's.
+pub fn written_runs_by_hand()
+    ensures use_starts { StartsWith told_by_two use_a (head.act (event (told a)) nil) }
+    ensures use_alone { (h : Head Written) → StartsWith told_by_two use_a h → h ≡ head.act (event (told a)) nil }
+    ensures use_of_use { StartsWith told_by_two use_b (head.act (event (told (both a a))) nil) }
+    ensures use_of_use_alone { (h : Head Written) → StartsWith told_by_two use_b h → h ≡ head.act (event (told (both a a))) nil }
+    ensures undefined { (ts : List Tree) (h : Head Written) → ¬ StartsWith told_by_two (call (codes "C") ts) h }
+    ensures undefined_stays { (g : Sig) (label : List Fact) (d : ConfigOf (writing told_by_two)) → ProcessStep g (initial use_c) label d
+        → d.threads ≡ Some use_c ∷ [] }
+    ensures form { (p q : Written) (h : Head Written) → StartsWith told_by_two (parallel p q) h → h ≡ head.parallel p q }
+    ensures at_once { (h : Head Written) → StartsWith (pairing ∷ []) (call (codes "A") (of_name (codes "y") ∷ b ∷ [])) h
+        → h ≡ head.act (out (both (of_name (codes "y")) b)) nil }
+    ensures shows { (g : Sig) → ProcessStep g {kind = writing told_by_two} (initial use_a) (told a ∷ []) (initial nil) }
+    ensures trace { (g : Sig) → IsWrittenTrace g told_by_two use_a ((told a ∷ []) ∷ []) }
+    ensures no_own_step { (g : Sig) (d : ConfigOf (writing told_by_two)) → ProcessStep g (initial use_a) [] d → d.threads ≡ Some use_a ∷ [] }
+    ensures copies { (g : Sig) → ProcessStep g {kind = writing (telling_again ∷ [])} (initial use_a) [] (spawns (initial use_a) (telling a)) }
+{
+    leaves_are_normal();
+}

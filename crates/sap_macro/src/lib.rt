@@ -12,11 +12,15 @@ mod index;
 mod laws;
 mod seeing;
 mod sizes;
+mod sorting_laws;
 mod source;
 mod standing;
+mod written_laws;
 
 pub use building::build;
-pub use by_hand::{equal_up_to_names_by_hand, expansions_by_hand, macro_causes_by_hand};
+pub use by_hand::{
+    equal_up_to_names_by_hand, expansions_by_hand, macro_causes_by_hand, written_runs_by_hand,
+};
 pub use definition::{Definition, DefinitionList};
 pub use index::{Index, definition_named, index_of};
 pub use laws::{
@@ -26,4 +30,9 @@ pub use laws::{
 };
 pub use seeing::seen;
 pub use sizes::{Size, expanded_size};
+pub use sorting_laws::{
+    arguments_by_hand, plain_bodies_are_in_order, sorted_by_hand, sorting_keeps_scopes,
+    sorts_are_exchanged,
+};
 pub use source::{Doing, Source};
+pub use written_laws::{what_is_written_runs_as_its_expansion, written_heads_are_one};

@@ -24,6 +24,7 @@ pub mod TakenNames
 pub mod FewNames
 pub mod HeldVariables
 pub mod OneExpansion
+pub mod WithoutLabels
 pub mod PlainFiles
 pub mod OccurringMeaning
 pub mod OccurringSorts
@@ -34,3 +35,4 @@ pub mod PrintableItems
 pub mod OwnNames
 pub mod CausesByHand
 pub mod FilesByHand
+pub mod AsWritten

@@ -1,19 +1,23 @@
 //! Laws of files, as contracts of functions that do nothing but call those below.
-ghost use Rattle.std.specs.Prelude.{◌≡◌, ◌⊎◌, ◌≤◌, ◌^◌, ℕ, List, None, Some, Result, Ok, Err, length};
+ghost use Rattle.std.specs.Prelude.{◌≡◌, ◌↔◌, ◌⊎◌, ◌≤◌, ◌^◌, ℕ, List, None, Some, Result, Ok, Err, length};
 ghost use Rattle.sap_terms.specs.declared.fact.Fact.{Fact};
 ghost use Rattle.sap_terms.specs.Tree.{Tree, level_count};
 ghost use Rattle.sap_text.specs.declared.token.Token.{Token};
 ghost use Rattle.sap_terms.specs.Signature.{Sig};
+ghost use Rattle.sap_terms.specs.Trace.{Trace};
+ghost use Rattle.sap_locks.specs.Annotation.{IsAnnotation, unlabelled};
 ghost use Rattle.sap_grammar.specs.Words.{Word, words_of};
 ghost use Rattle.sap_grammar.specs.TermGrammar.{IsTerm};
 ghost use Rattle.sap_grammar.specs.FactGrammar.{IsFact, fact_levels};
 ghost use Rattle.sap_read.specs.code.ProcessLaws.{ProcessLaws};
 ghost use Rattle.sap_macro.specs.Replaced as replaced;
 ghost use Rattle.sap_macro.specs.UpToNames.{AreSameUpToNames};
-ghost use Rattle.sap_macro.specs.Written.{Written};
+ghost use Rattle.sap_macro.specs.Written.{Definition, Written};
+ghost use Rattle.sap_read.specs.AsWritten.{FilesShowAsWritten, IsWrittenAs};
 ghost use Rattle.sap_read.specs.Causes.{cause_of};
 ghost use Rattle.sap_read.specs.FileProcess.{definitions_of, main_of, process_of, IsExpanded};
 ghost use Rattle.sap_process.specs.Proc.{Proc};
+ghost use Rattle.sap_process.specs.ProcessSteps.{IsProcessTrace};
 ghost use Rattle.sap_draft.specs.ProcessGrammar.{IsPar};
 ghost use Rattle.sap_grammar.specs.Cut.{Placed, IsCut};
 ghost use Rattle.sap_read.specs.ItemGrammar.{AreItems};
@@ -42,7 +46,7 @@ use sap_grammar::{item_laws, same_grammar, words_of_bytes};
 use sap_locks::{annotations_are_ready, annotations_of_processes};
 use sap_macro::{
     expansions_are_one, new_names_are_least, new_names_are_short, plain_files_stay,
-    plain_uses_have_parameters, sizes_are_one,
+    plain_uses_have_parameters, same_up_to_names_show_the_same, sizes_are_one,
 };
 use sap_process::{one_flaw, some_flaw, sorting_keeps};
 use sap_statements::{
@@ -207,6 +211,20 @@ pub fn file_processes_are_one()
     expansions_are_one();
 }
 
+/// A law: labels show nothing. A well-formed process is the same up to names as it is without labels; so each of its traces is one of
+/// its annotation, and each of that is one of its own.
+pub fn labels_show_nothing()
+    ensures names { (g : Sig) (p : Proc) → IsWellFormed g p → AreSameUpToNames p (unlabelled p) }
+    ensures traces { (g : Sig) (p q : Proc) (tr : Trace) → IsWellFormed g p → IsAnnotation p q
+        → IsProcessTrace g p tr ↔ IsProcessTrace g q tr }
+{
+    expansions_are_one();
+    plain_files_stay();
+    unflawed_bodies_are_closed();
+    same_up_to_names_show_the_same();
+    annotations_are_ready();
+}
+
 /// A law: the words behind a header are cut into items in one way, and spell at most one list of items, under a signature and
 /// under that of the items themselves.
 pub fn one_list_of_items()
@@ -221,4 +239,29 @@ pub fn one_list_of_items()
     item_laws();
     process_laws();
     statement_laws();
+}
+
+/// A law: a file that is read is written with some definitions and one process; bytes are written so in one way; and what the process
+/// shows as it is written, where a use runs as its definition's instance, the process that is read shows, and nothing else, where each
+/// use in it names in its arguments what is in scope there.
+pub fn files_show_as_they_are_written()
+    ensures written { (z : List ℕ) (f : FileContent) → IsRead z (Ok f)
+        → ((ds : List Definition) × (p : Written) × IsWrittenAs z ds p) }
+    ensures one { (z : List ℕ) (ds es : List Definition) (p q : Written) → IsWrittenAs z ds p
+        → IsWrittenAs z es q → (ds ≡ es) × (p ≡ q) }
+    ensures shows { FilesShowAsWritten }
+{
+    item_laws();
+    process_laws();
+    statement_laws();
+    one_answer();
+    used_definitions_are_closed();
+    identifiers_hold_variables();
+    plain_bodies_are_in_order();
+    sorting_keeps_scopes();
+    sorts_are_exchanged();
+    what_is_written_runs_as_its_expansion();
+    unflawed_processes_are_closed();
+    labels_show_nothing();
+    sorting_keeps();
 }

@@ -224,59 +224,83 @@ below_one path scope k p = sites_from (path ++ 1 ∷ []) scope k p
 abbrev below_two : List ℕ → List Var → ℕ → Proc → List Site
 below_two path scope k p = sites_from (path ++ 2 ∷ []) scope k p
 
-closed_in : (w : Written) (names : List (List ℕ)) (scope : List Var) (path : List ℕ) (k : ℕ) → KnowTheSame names (var_names scope) → AreGood (sites_from path scope k (seen w))
-    → IsClosed names w
-closed_in nil names scope path k h g = tt
-closed_in (call f ts) names scope path k h g =
+-- the process has the form of what is written, where these are in scope; a use is there as flaws see it, or it names nothing else in
+-- its arguments, and anything may stand for it
+pub data Shows : List (List ℕ) → Written → Proc → Type 0 where
+  nil_shows : {names : List (List ℕ)} → Shows names nil whole.nil
+  use_shows : {names : List (List ℕ)} {f : List ℕ} {ts : List Tree} → Shows names (call f ts) (seen (call f ts))
+  anything : {names : List (List ℕ)} {f : List ℕ} {ts : List Tree} {q : Proc} → IsOverScope names (trees_vars (trees_of ts)) → Shows names (call f ts) q
+  parallel_shows : {names : List (List ℕ)} {p u : Written} {a b : Proc} → Shows names p a → Shows names u b → Shows names (parallel p u) (whole.parallel a b)
+  replicated_shows : {names : List (List ℕ)} {p : Written} {a : Proc} → Shows names p a → Shows names (replicated p) (whole.replicated a)
+  act_shows : {names : List (List ℕ)} {c : Action} {p : Written} {a : Proc} → Shows (behind names c) p a → Shows names (act c p) (whole.act c a)
+  test_shows : {names : List (List ℕ)} {t v : Tree} {p u : Written} {a b : Proc} → Shows names p a → Shows names u b → Shows names (test t v p u) (whole.test t v a b)
+  lookup_shows : {names : List (List ℕ)} {t : Tree} {x : Var} {p u : Written} {a b : Proc} → Shows (x.name ∷ names) p a → Shows names u b
+      → Shows names (lookup t x p u) (whole.lookup t x a b)
+
+closed_in : (names : List (List ℕ)) (w : Written) (q : Proc) → Shows names w q → (scope : List Var) (path : List ℕ) (k : ℕ) → KnowTheSame names (var_names scope)
+    → AreGood (sites_from path scope k q) → IsClosed names w
+closed_in names w q nil_shows scope path k h g = tt
+closed_in names w q (use_shows {f = f} {ts = ts}) scope path k h g =
     let here = head_good (place path (above_of scope k) (seen (call f ts))) (below_one path (scope ++ []) (k + 0) whole.nil) g in
     list_over names (var_names scope) h ts (over names scope h path k (terms_vars ts) here.bound)
-closed_in (parallel p q) names scope path k h g =
-    let rest = later_good (place path (above_of scope k) (seen (parallel p q))) (below_one path scope k (seen p) ++ below_two path scope k (seen q)) g in (
-      closed_in p names scope (path ++ 1 ∷ []) k h (first_good (below_one path scope k (seen p)) (below_two path scope k (seen q)) rest),
-      closed_in q names scope (path ++ 2 ∷ []) k h (second_good (below_one path scope k (seen p)) (below_two path scope k (seen q)) rest),
+closed_in names w q (anything o) scope path k h g = o
+closed_in names w q (parallel_shows {p = p} {u = u} {a = a} {b = b} l r) scope path k h g =
+    let rest = later_good (place path (above_of scope k) (whole.parallel a b)) (below_one path scope k a ++ below_two path scope k b) g in (
+      closed_in names p a l scope (path ++ 1 ∷ []) k h (first_good (below_one path scope k a) (below_two path scope k b) rest),
+      closed_in names u b r scope (path ++ 2 ∷ []) k h (second_good (below_one path scope k a) (below_two path scope k b) rest),
     )
-closed_in (replicated p) names scope path k h g =
-    closed_in p names scope (path ++ 1 ∷ []) k h (later_good (place path (above_of scope k) (seen (replicated p))) (below_one path scope k (seen p)) g)
-closed_in (act a p) names scope path k h g =
-    let below = below_one path (scope ++ bound_by scope a) (k + locks_set a) (seen p) in
-    let here = head_good (place path (above_of scope k) (seen (act a p))) below g in (
-      used_bound names scope h path k a (seen p) here,
+closed_in names w q (replicated_shows {p = p} {a = a} l) scope path k h g =
+    closed_in names p a l scope (path ++ 1 ∷ []) k h (later_good (place path (above_of scope k) (whole.replicated a)) (below_one path scope k a) g)
+closed_in names w q (act_shows {c = c} {p = p} {a = a} l) scope path k h g =
+    let below = below_one path (scope ++ bound_by scope c) (k + locks_set c) a in
+    let here = head_good (place path (above_of scope k) (whole.act c a)) below g in (
+      used_bound names scope h path k c a here,
       (
-        binder_new names scope h path k a (seen p) here,
-        closed_in p (behind names a) (scope ++ bound_by scope a) (path ++ 1 ∷ []) (k + locks_set a) (action_more names scope a h)
-            (later_good (place path (above_of scope k) (seen (act a p))) below g),
+        binder_new names scope h path k c a here,
+        closed_in (behind names c) p a l (scope ++ bound_by scope c) (path ++ 1 ∷ []) (k + locks_set c) (action_more names scope c h)
+            (later_good (place path (above_of scope k) (whole.act c a)) below g),
       ),
     )
-closed_in (test t u p q) names scope path k h g =
-    let below = below_one path scope k (seen p) ++ below_two path scope k (seen q) in
-    let here = head_good (place path (above_of scope k) (seen (test t u p q))) below g in
-    let rest = later_good (place path (above_of scope k) (seen (test t u p q))) below g in
-    let used = two_over names (var_names scope) h t u (over names scope h path k (terms_vars (t ∷ u ∷ [])) here.bound) in (
+closed_in names w q (test_shows {t = t} {v = v} {p = p} {u = u} {a = a} {b = b} l r) scope path k h g =
+    let below = below_one path scope k a ++ below_two path scope k b in
+    let here = head_good (place path (above_of scope k) (whole.test t v a b)) below g in
+    let rest = later_good (place path (above_of scope k) (whole.test t v a b)) below g in
+    let used = two_over names (var_names scope) h t v (over names scope h path k (terms_vars (t ∷ v ∷ [])) here.bound) in (
       used.0,
       (
         used.1,
         (
-          closed_in p names scope (path ++ 1 ∷ []) k h (first_good (below_one path scope k (seen p)) (below_two path scope k (seen q)) rest),
-          closed_in q names scope (path ++ 2 ∷ []) k h (second_good (below_one path scope k (seen p)) (below_two path scope k (seen q)) rest),
+          closed_in names p a l scope (path ++ 1 ∷ []) k h (first_good (below_one path scope k a) (below_two path scope k b) rest),
+          closed_in names u b r scope (path ++ 2 ∷ []) k h (second_good (below_one path scope k a) (below_two path scope k b) rest),
         ),
       ),
     )
-closed_in (lookup t x p q) names scope path k h g =
+closed_in names w q (lookup_shows {t = t} {x = x} {p = p} {u = u} {a = a} {b = b} l r) scope path k h g =
     let inner = scope ++ message_var x ∷ [] in
-    let below = below_one path inner k (seen p) ++ below_two path scope k (seen q) in
-    let here = head_good (place path (above_of scope k) (seen (lookup t x p q))) below g in
-    let rest = later_good (place path (above_of scope k) (seen (lookup t x p q))) below g in (
+    let below = below_one path inner k a ++ below_two path scope k b in
+    let here = head_good (place path (above_of scope k) (whole.lookup t x a b)) below g in
+    let rest = later_good (place path (above_of scope k) (whole.lookup t x a b)) below g in (
       one_over names (var_names scope) h t (over names scope h path k (terms_vars (t ∷ [])) here.bound),
       (
-        binds_new names scope path k (seen (lookup t x p q)) x h refl here,
+        binds_new names scope path k (whole.lookup t x a b) x h refl here,
         (
-          closed_in p (x.name ∷ names) inner (path ++ 1 ∷ []) k
+          closed_in (x.name ∷ names) p a l inner (path ++ 1 ∷ []) k
               (subst (KnowTheSame (x.name ∷ names)) (sym (names_two scope (message_var x ∷ []))) (known_more names (var_names scope) x.name h))
-              (first_good (below_one path inner k (seen p)) (below_two path scope k (seen q)) rest),
-          closed_in q names scope (path ++ 2 ∷ []) k h (second_good (below_one path inner k (seen p)) (below_two path scope k (seen q)) rest),
+              (first_good (below_one path inner k a) (below_two path scope k b) rest),
+          closed_in names u b r scope (path ++ 2 ∷ []) k h (second_good (below_one path inner k a) (below_two path scope k b) rest),
         ),
       ),
     )
+
+-- what is written shows as flaws see it
+seen_shows : (names : List (List ℕ)) (w : Written) → Shows names w (seen w)
+seen_shows names nil = nil_shows
+seen_shows names (call f ts) = use_shows
+seen_shows names (parallel p q) = parallel_shows (seen_shows names p) (seen_shows names q)
+seen_shows names (replicated p) = replicated_shows (seen_shows names p)
+seen_shows names (act a p) = act_shows (seen_shows (behind names a) p)
+seen_shows names (test t u p q) = test_shows (seen_shows names p) (seen_shows names q)
+seen_shows names (lookup t x p q) = lookup_shows (seen_shows (x.name ∷ names) p) (seen_shows names q)
 
 -- a place without a flaw
 good_at : (g : Sig) (scope : List Var) (p : Proc) → HasNoScopeFlaw g scope p → AreGood (sites_in scope p)
@@ -292,5 +316,8 @@ good_at g scope p none s c =
     by (v ∷ vs) e k is =
         absurd (none Unbound tt k (record { site = s; stands = is; flaw = λ empty. let some : v ∷ vs ≡ [] = sym e ∙ empty in absurd (cc) }))
 
+pub shown_closed : (g : Sig) (scope : List Var) (w : Written) (q : Proc) → Shows (var_names scope) w q → HasNoScopeFlaw g scope q → IsClosed (var_names scope) w
+shown_closed g scope w q l none = closed_in (var_names scope) w q l scope [] 0 (λ x. refl) (good_at g scope q none)
+
 pub unflawed_closed : (g : Sig) (scope : List Var) (w : Written) → HasNoScopeFlaw g scope (seen w) → IsClosed (var_names scope) w
-unflawed_closed g scope w none = closed_in w (var_names scope) scope [] 0 (λ x. refl) (good_at g scope (seen w) none)
+unflawed_closed g scope w none = shown_closed g scope w (seen w) (seen_shows (var_names scope) w) none

@@ -13,4 +13,5 @@ pub mod FirstFlawed
 pub mod Causes
 pub mod SomeCause
 pub mod Closed
+pub mod ClosedProcesses
 pub mod Accepted

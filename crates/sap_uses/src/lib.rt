@@ -21,4 +21,5 @@ pub use flawed::first_flawed;
 pub use large::first_large;
 pub use laws::{
     accepted_definitions_are_closed, one_macro_cause, some_macro_cause, unflawed_bodies_are_closed,
+    unflawed_processes_are_closed,
 };
