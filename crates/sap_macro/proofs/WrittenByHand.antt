@@ -8,21 +8,23 @@ use Rattle.sap_terms.specs.Equations.{equations}
 use Rattle.sap_terms.specs.Laws.{LeavesAreNormal}
 use Rattle.sap_terms.specs.Modulo.{IsFormOfFact}
 use Rattle.sap_terms.specs.Signature.{Sig}
-use Rattle.sap_terms.specs.Tree.{Tree}
+use Rattle.sap_terms.specs.Tree.{Tree, fresh}
 use Rattle.sap_terms.specs.declared.fact.Fact.{Fact}
-use Rattle.sap_process.specs.Action.{event, out}
-use Rattle.sap_process.specs.Configuration.{ConfigOf, initial, spawns}
+use Rattle.sap_terms.specs.declared.var.Sort.TheVariants.{Fresh}
+use Rattle.sap_process.specs.Action.{new, event, out}
+use Rattle.sap_process.specs.Configuration.{ConfigOf, initial, makes, spawns}
 use Rattle.sap_process.specs.Head as head
 use Rattle.sap_process.specs.Head.{Head}
 use Rattle.sap_process.specs.ProcessSteps.{ProcessStep, ends, splits, copies, makes_name, outputs, outputs_on, inputs, inputs_on, meets, agrees, differs, shows, inserts, deletes, finds, misses, locks, unlocks, embeds, adversary_makes, knows, starts, further}
-use Rattle.sap_macro.specs.ExpansionExamples.{a, b, of_name, pairing}
+use Rattle.sap_macro.specs.ExpansionExamples.{a, b, of_name, fresh_of, news, pairing}
 use Rattle.sap_macro.specs.NameExamples.{both}
 use Rattle.sap_macro.specs.Order.{AreInOrder}
-use Rattle.sap_macro.specs.Written.{Written, nil, call, parallel, Definition}
+use Rattle.sap_macro.specs.UpToNames.{named}
+use Rattle.sap_macro.specs.Written.{Written, nil, call, parallel, act, Definition}
 use Rattle.sap_macro.specs.WrittenExamples.{told, telling, telling_x, passing, telling_again, told_by_two, use_a, use_b, use_c}
 use Rattle.sap_macro.specs.WrittenRuns.{StartsWith, itself, use_of, StandsAs, IsWrittenTrace, writing}
 use Rattle.sap_macro.proofs.WrittenHeads.{heads_are_one, not_a_use}
-use Rattle.sap_terms.proofs.PlainLaws.Items.{first_item, later_item, item_cases, cons_cases}
+use Rattle.sap_terms.proofs.PlainLaws.Items.{first_item, later_item, item_cases, cons_cases, none_contained}
 
 -- ---- what starts with what
 
@@ -82,6 +84,13 @@ module _ (normal : LeavesAreNormal) (g : Sig) where
 
 pub one_copy : (g : Sig) → ProcessStep g {kind = writing (telling_again ∷ [])} (initial use_a) [] (spawns (initial use_a) (telling a))
 one_copy g = copies 0 (record { process = use_a; runs = refl; head = use_of telling_again (first_item telling_again []) (itself (head.replicated (telling a))) })
+
+pub one_replaced : (g : Sig)
+    → ProcessStep g {kind = writing told_by_two} (initial (news (codes "n") (call (codes "A") (fresh_of (codes "n") ∷ [])))) [] (makes (initial (call (codes "A") (fresh 7 ∷ []))) 7)
+one_replaced g =
+    let p = call (codes "A") (fresh_of (codes "n") ∷ []) in
+    let h : Head Written = head.act (new (named (codes "n") Fresh)) p in
+    makes_name 0 7 (record { process = act (new (named (codes "n") Fresh)) p; runs = refl; head = itself h }) ((λ c. none_contained c), (λ c. none_contained c))
 
 module _ (ds : List Definition) (w : Written) where
   head_there : (t : ℕ) (h : Head Written) → StandsAs ds (Some w ∷ []) t h → StartsWith ds w h
