@@ -58,7 +58,7 @@ own_head_is (head.act a p) = refl
 own_head_is (head.test t u p q) = refl
 own_head_is (head.lookup t x p q) = refl
 
-not_a_use : (h : Head Written) (f : List ℕ) (ts : List Tree) → ¬ (written_of h ≡ call f ts)
+pub not_a_use : (h : Head Written) (f : List ℕ) (ts : List Tree) → ¬ (written_of h ≡ call f ts)
 not_a_use head.nil f ts e = cc
 not_a_use (head.parallel p q) f ts e = cc
 not_a_use (head.replicated p) f ts e = cc

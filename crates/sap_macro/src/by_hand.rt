@@ -1,10 +1,10 @@
 //! Small processes by hand, as laws.
 ghost use Rattle.std.specs.Prelude.{◌≡◌, codes, List, [], ◌∷◌, None, Some};
 ghost use Rattle.sap_terms.specs.Signature.{Sig};
-ghost use Rattle.sap_terms.specs.Tree.{Tree, public};
+ghost use Rattle.sap_terms.specs.Tree.{Tree, fresh, public};
 ghost use Rattle.sap_terms.specs.declared.fact.Fact.{Fact};
 ghost use Rattle.sap_process.specs.Action.{event, out};
-ghost use Rattle.sap_process.specs.Configuration.{ConfigOf, initial, spawns};
+ghost use Rattle.sap_process.specs.Configuration.{ConfigOf, initial, makes as makes_name, spawns};
 ghost use Rattle.sap_process.specs.Head as head;
 ghost use Rattle.sap_process.specs.Head.{Head};
 ghost use Rattle.sap_process.specs.Proc as whole;
@@ -72,7 +72,8 @@ pub fn macro_causes_by_hand()
 /// A law: what starts with what, and how a use runs. With `let A(x) = event E(x)` and `let B(y) = A(<y,y>)` the use `A('a')` starts with
 /// the event alone, and `B('a')` with that of `<'a','a'>`; what nothing defines starts with nothing, and stays; each other form starts with
 /// itself alone. Parameters are replaced all at once. A use has no step of its own: where nothing is shown its thread is still the use, and
-/// the first that it shows is `E('a')`, behind which nothing is left. A replication stays a use, and its copy is the body's.
+/// in one step it shows `E('a')`, behind which nothing is left. A name that is made is put into the arguments of a use behind. A
+/// replication that a use stands for stays the use, and its copy is the body's.
 pub fn written_runs_by_hand()
     ensures use_starts { StartsWith told_by_two use_a (head.act (event (told a)) nil) }
     ensures use_alone { (h : Head Written) → StartsWith told_by_two use_a h → h ≡ head.act (event (told a)) nil }
@@ -87,6 +88,8 @@ pub fn written_runs_by_hand()
     ensures shows { (g : Sig) → ProcessStep g {kind = writing told_by_two} (initial use_a) (told a ∷ []) (initial nil) }
     ensures trace { (g : Sig) → IsWrittenTrace g told_by_two use_a ((told a ∷ []) ∷ []) }
     ensures no_own_step { (g : Sig) (d : ConfigOf (writing told_by_two)) → ProcessStep g (initial use_a) [] d → d.threads ≡ Some use_a ∷ [] }
+    ensures replaces { (g : Sig) → ProcessStep g {kind = writing told_by_two}
+        (initial (news (codes "n") (call (codes "A") (fresh_of (codes "n") ∷ [])))) [] (makes_name (initial (call (codes "A") (fresh 7 ∷ []))) 7) }
     ensures copies { (g : Sig) → ProcessStep g {kind = writing (telling_again ∷ [])} (initial use_a) [] (spawns (initial use_a) (telling a)) }
 {
     leaves_are_normal();

@@ -1,4 +1,4 @@
-use Rattle.sap_macro.proofs.WrittenByHand.{at_once, form, no_own_step, one_copy, shown_once, shown_trace, undefined, undefined_stays, use_of_use, use_of_use_only, use_only, use_starts}
+use Rattle.sap_macro.proofs.WrittenByHand.{at_once, form, no_own_step, one_copy, one_replaced, shown_once, shown_trace, undefined, undefined_stays, use_of_use, use_of_use_only, use_only, use_starts}
 use Rattle.sap_macro.proofs.by_hand.written_runs_by_hand.Goals as goal
 
 pub returns-clause-use_starts : goal.returns-clause-use_starts
@@ -36,3 +36,6 @@ returns-clause-no_own_step c = no_own_step
 
 pub returns-clause-copies : goal.returns-clause-copies
 returns-clause-copies c = one_copy
+
+pub returns-clause-replaces : goal.returns-clause-replaces
+returns-clause-replaces c = one_replaced
