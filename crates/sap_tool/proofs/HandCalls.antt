@@ -1,18 +1,26 @@
 -- Calls whose shelf tells nothing that it holds: what is left of the promises, and which answers there are.
-use Rattle.std.proofs.Common.{◌≡◌, ◌<◌, ℕ, List, [], ◌∷◌, Option, None, Some, refl, ◌⊎◌, arith}
+use Rattle.std.proofs.Common.{◌≡◌, ◌<◌, lit≤, ℕ, List, [], ◌∷◌, Option, None, Some, refl, ◌⊎◌, arith}
 use Rattle.std.proofs.lemmas.List.Elements.{All-nil, All-cons, All-contains}
 use Rattle.std.specs.Prelude.{codes, Contains, All, IsSomeAnd}
+use Rattle.sap_grammar.specs.Cut.{Placed, placed, IsHeader}
 use Rattle.sap_outside.specs.Pieces.{pieces}
+use Rattle.sap_outside.specs.RunPieces.{bad_head}
 use Rattle.sap_outside.specs.Requests.{Request}
 use Rattle.sap_outside.specs.Stream.{Stream, Gained, Failed, CutShort}
 use Rattle.sap_pages.specs.Texts.{version_text}
+use Rattle.sap_read.specs.Files.{no_header}
+use Rattle.sap_replay.specs.AcceptedFile.{unread as unread_file}
+use Rattle.sap_replay.specs.RunRefusals.{no_run}
+use Rattle.sap_replay.specs.declared.way.Way.TheVariants.{Plain}
+use Rattle.sap_run_texts.specs.RunTexts.{told_neither, IsHeaded, process_head, rule_head}
+use Rattle.sap_text.specs.Tokens.{ended}
 use Rattle.sap_tool.specs.Call.{Call, Holds}
-use Rattle.sap_tool.specs.Commands.{Command, to_json, Input, alone, and_run, run_alone, spelled, file_of, run_of, IsUnknown}
+use Rattle.sap_tool.specs.Commands.{Command, compile, to_json, Input, alone, and_run, run_alone, spelled, file_of, run_of, Refuses, RefusesRun, IsUnknown}
 use Rattle.sap_tool.specs.ToldAtOnce.{IsToldAtOnce, help, version}
 use Rattle.sap_answer.specs.Answer.{gives, tells, write_fault_text, memory_text}
 use Rattle.sap_tool.specs.Answers.{refused, run_refused, Asks, IsAnswer, to_input, told_at_once, usage, unread, unread_run, FailedOnFile, FailedOnRun, WasRunGivenUp}
 use Rattle.sap_tool.specs.Promises as promised
-use Rattle.sap_tool.specs.PromisesExamples.{asking, version_words, json_words, unknown_words}
+use Rattle.sap_tool.specs.PromisesExamples.{asking, compile_words, version_words, json_words, unknown_words}
 use Rattle.sap_tool.proofs.AtOnce.{OnePage, one_told}
 use Rattle.sap_tool.proofs.Asked.{no_command_is_told, nothing_of_one, unknown_of}
 
@@ -81,6 +89,12 @@ json_known u = u.no_command (to_json (codes "r")) refl
 pub json_untold : (text : List ℕ) → IsToldAtOnce json_words text → ⊥
 json_untold text told = no_command_is_told json_words (to_json (codes "r")) text refl told
 
+pub compile_known : IsUnknown compile_words → ⊥
+compile_known u = u.no_command (compile Plain (codes "f")) refl
+
+pub compile_untold : (text : List ℕ) → IsToldAtOnce compile_words text → ⊥
+compile_untold text told = no_command_is_told compile_words (compile Plain (codes "f")) text refl told
+
 pub x_unknown : IsUnknown unknown_words
 x_unknown = unknown_of unknown_words (nothing_of_one (codes "x") (λ e. cc (e)) (λ e. cc (e)) (λ e. cc (e)))
 
@@ -108,3 +122,22 @@ below_seven s has = All-contains (λ (n : ℕ). n < 7) (0 ∷ 1 ∷ 2 ∷ 3 ∷ 
   all =
       let P : ℕ → Type 0 = λ n. n < 7 in
       All-cons P 0 (1 ∷ 2 ∷ 3 ∷ 4 ∷ 5 ∷ 6 ∷ []) (omega arith) (All-cons P 1 (2 ∷ 3 ∷ 4 ∷ 5 ∷ 6 ∷ []) (omega arith) (All-cons P 2 (3 ∷ 4 ∷ 5 ∷ 6 ∷ []) (omega arith) (All-cons P 3 (4 ∷ 5 ∷ 6 ∷ []) (omega arith) (All-cons P 4 (5 ∷ 6 ∷ []) (omega arith) (All-cons P 5 (6 ∷ []) (omega arith) (All-cons P 6 ([]) (omega arith) (All-nil P)))))))
+
+-- no bytes are a file without a header, and one byte is a run without a head
+no_word : (w : Placed) (ws : List Placed) → ◌≡◌ {A = List Placed} [] (w ∷ ws) → ⊥
+no_word w ws e = cc (e)
+
+no_header_there : (x : List ℕ) (rest : List Placed) → IsHeader x (placed [] []) rest → ⊥
+no_header_there x rest h = no_word _ _ h.spelled
+
+pub headerless : Refuses (compile Plain (codes "f")) [] (codes "no theory header")
+headerless = unread_file (lit≤ tt) (no_header ended no_header_there)
+
+no_process : (body : List ℕ) → IsHeaded process_head body (codes "x") → ⊥
+no_process body e = cc (e)
+
+no_rules : (body : List ℕ) → IsHeaded rule_head body (codes "x") → ⊥
+no_rules body e = cc (e)
+
+pub headless : RefusesRun (to_json (codes "r")) (run_alone (codes "x")) (codes "wrong head")
+headless = no_run (bad_head (lit≤ tt) (told_neither no_process no_rules))

@@ -1,6 +1,7 @@
 -- Calls by hand: what may be seen of one, and what may not.
 use Rattle.std.specs.Prelude.{ℕ, codes, List, [], ◌∷◌, None, Some}
-use Rattle.sap_outside.specs.Requests.{Request, begin, next}
+use Rattle.sap_outside.specs.Outside.{Files}
+use Rattle.sap_outside.specs.Requests.{Request, begin, fetch, next}
 use Rattle.sap_outside.specs.Seen.{SeenShelf, seen_shelf, seen_sink}
 use Rattle.sap_outside.specs.Stream.{Stream, stream}
 use Rattle.sap_tool.specs.Call.{Call, call_of}
@@ -31,12 +32,21 @@ untouched = got [] 0
 abbrev pub asking : List (List ℕ) → List Request → ℕ → Stream → Stream → Call
 asking words made faults out err = call_of words (shelf [] 0) (shelf made faults) out err
 
--- words that ask for the version, for a run as JSON, and for nothing
+-- a call for which a shelf was asked for this that tells what it holds, and had no fault
+abbrev pub telling : Files → List (List ℕ) → List Request → Stream → Stream → Call
+telling held words made out err =
+    call_of words (seen_shelf (Some held) (λ name. 0) (Some []) None None)
+    (seen_shelf (Some held) (λ name. 0) (Some made) None None) out err
+
+-- words that ask for the version, for a run as JSON, for a theory, and for nothing
 abbrev pub version_words : List (List ℕ)
 version_words = codes "--version" ∷ []
 
 abbrev pub json_words : List (List ℕ)
 json_words = codes "to-json" ∷ codes "r" ∷ []
+
+abbrev pub compile_words : List (List ℕ)
+compile_words = codes "compile" ∷ codes "f" ∷ []
 
 abbrev pub unknown_words : List (List ℕ)
 unknown_words = codes "x" ∷ []
@@ -51,3 +61,7 @@ piece = next 4096
 -- the run is one byte that is no head: it is opened, and gives a piece and an empty one
 abbrev pub no_head : Stream → Call
 no_head err = asking json_words (opens (piece ∷ piece ∷ [])) 0 untouched err
+
+-- the file is fetched
+abbrev pub fetches : List Request
+fetches = fetch (codes "f") 1048576 ∷ []

@@ -6,7 +6,8 @@ use Rattle.sap_outside.specs.Requests.{Request, begin, for_run}
 use Rattle.sap_outside.specs.Stream.{Gained, CutShort}
 use Rattle.sap_pages.specs.Texts.{version_text}
 use Rattle.sap_tool.specs.Call.{Call, AskedFor}
-use Rattle.sap_tool.specs.Commands.{Command, to_json, spelled, IsUnknown}
+use Rattle.sap_replay.specs.declared.way.Way.TheVariants.{Plain}
+use Rattle.sap_tool.specs.Commands.{Command, compile, to_json, run_alone, spelled, IsUnknown}
 use Rattle.sap_tool.specs.ToldAtOnce.{IsToldAtOnce}
 use Rattle.sap_answer.specs.Answer.{Answer, gives, tells, Part, Broken, Starved, CutLast, IsLast, complete, cut, write_fault_text, memory_text}
 use Rattle.sap_tool.specs.Answers.{IsAnswer, refused, run_refused, to_input, usage, unread, unread_run, FailedOnFile, FailedOnRun, WasRunGivenUp, WasRunRead, IsBegun, asked_nothing, asked_file, asked_run, asked_both, for_file}
@@ -15,7 +16,7 @@ use Rattle.sap_tool.specs.PromisesExamples.{asking, version_words, json_words, u
 use Rattle.sap_tool.proofs.Endings.{usage_is}
 use Rattle.sap_tool.proofs.AtOnce.{OnePage}
 use Rattle.sap_tool.proofs.Asked.{one_command, differ}
-use Rattle.sap_tool.proofs.HandCalls.{given_told, Unread, of_file, of_run, unread_is, below_seven, version_asks, version_only, version_known, x_unknown}
+use Rattle.sap_tool.proofs.HandCalls.{headerless, headless, given_told, Unread, of_file, of_run, unread_is, below_seven, version_asks, version_only, version_known, x_unknown}
 use Rattle.sap_tool.proofs.promises_by_hand.promises_are_broken_by_hand.Goals as goal
 
 -- what out gained with status 0, where the words ask for the version
@@ -43,6 +44,30 @@ no_request r made e = cc (e)
 
 pub returns-clause-asked : goal.returns-clause-asked
 returns-clause-asked c = λ p. none_asked _ _ (version_given c.one_page.ensures _ refl (p.given refl)).0
+
+-- a file that the shelf tells it holds is refused for its own cause
+pub returns-clause-other_file_cause : goal.returns-clause-other_file_cause
+returns-clause-other_file_cause c = λ held is p. at (p.must_refuse (compile Plain (codes "f")) [] (codes "no theory header") refl is headerless) where
+  at : ((1 ≡ 1) × (Gained (got (codes "file refused: no process\n") 1) 1 (codes "file refused: no theory header\n"))) ⊎ ((1 ≡ 4) × (1 ≤ 0)) ⊎ ((1 ≡ 5) × (1 ≤ 0)) ⊎ (1 ≡ 6) → ⊥
+  at (inl told) = differ (codes "file refused: no process\n") (codes "file refused: no theory header\n") told.1.0 refl refl
+  at (inr (inl unread)) = omega (arith, unread.0)
+  at (inr (inr (inl unwritten))) = omega (arith, unwritten.0)
+  at (inr (inr (inr wanting))) = omega (arith, wanting)
+
+-- and so is a run
+pub returns-clause-other_cause : goal.returns-clause-other_cause
+returns-clause-other_cause c = λ held is p. at (p.must_refuse_run (to_json (codes "r")) (run_alone (codes "x")) (codes "wrong head") refl (refl, is) headless) where
+  at : ((2 ≡ 2) × (Gained (got (codes "run refused: line 1 is not a step\n") 1) 1 (codes "run refused: wrong head\n"))) ⊎ ((2 ≡ 4) × (⊥ ⊎ (1 ≤ 0))) ⊎ ((2 ≡ 5) × (1 ≤ 0)) ⊎ (2 ≡ 6) → ⊥
+  at (inl told) = differ (codes "run refused: line 1 is not a step\n") (codes "run refused: wrong head\n") told.1.0 refl refl
+  at (inr (inl unread)) = omega (arith, unread.0)
+  at (inr (inr (inl unwritten))) = omega (arith, unwritten.0)
+  at (inr (inr (inr wanting))) = omega (arith, wanting)
+
+some_out : codes "sapic" ≡ [] → ⊥
+some_out e = cc (e)
+
+pub returns-clause-unknown_out : goal.returns-clause-unknown_out
+returns-clause-unknown_out c = λ p. some_out (p.nothing_out (promised.unknown x_unknown)).0
 
 -- what status 3 says, where the words ask for no command
 usage_said : (c : Call) (n : ℕ) (text : List ℕ) → n ≡ 3 → IsAnswer c (tells n text) → IsUnknown c.words × (c.after.asked ≡ c.before.asked)

@@ -2,17 +2,15 @@ use Rattle.std.proofs.Common.{◌≢◌, ◌≤◌, ℕ, List, [], ◌∷◌, le
 use Rattle.std.proofs.lemmas.List.Elements.{All-nil, All-cons}
 use Rattle.std.specs.Prelude.{codes}
 use Rattle.sap_outside.specs.Pieces.{pieces}
-use Rattle.sap_outside.specs.RunPieces.{bad_head}
 use Rattle.sap_outside.specs.Stream.{Gained}
 use Rattle.sap_pages.specs.Texts.{version_text}
-use Rattle.sap_run_texts.specs.RunTexts.{told_neither, IsHeaded, process_head, rule_head}
-use Rattle.sap_replay.specs.RunRefusals.{no_run}
-use Rattle.sap_tool.specs.Commands.{to_json, run_alone}
+use Rattle.sap_replay.specs.declared.way.Way.TheVariants.{Plain}
+use Rattle.sap_tool.specs.Commands.{alone, compile, to_json, run_alone}
 use Rattle.sap_answer.specs.Answer.{gives, tells, complete, cut, usage_text, read_fault_text}
-use Rattle.sap_tool.specs.Answers.{told_at_once, usage, unread_run, to_input, run_refused, asked_nothing}
+use Rattle.sap_tool.specs.Answers.{refused, told_at_once, usage, unread_run, to_input, run_refused, asked_nothing}
 use Rattle.sap_tool.specs.Promises as promised
-use Rattle.sap_tool.specs.PromisesExamples.{version_words, json_words, unknown_words, opens, piece, got, failed, starved, untouched}
-use Rattle.sap_tool.proofs.HandCalls.{untold, version_told, version_only, version_known, json_known, json_untold, x_unknown}
+use Rattle.sap_tool.specs.PromisesExamples.{compile_words, fetches, version_words, json_words, unknown_words, opens, piece, got, failed, starved, untouched}
+use Rattle.sap_tool.proofs.HandCalls.{untold, compile_known, compile_untold, headerless, headless, version_told, version_only, version_known, json_known, json_untold, x_unknown}
 use Rattle.sap_tool.proofs.promises_by_hand.promises_are_kept_by_hand.Goals as goal
 
 pub returns-clause-given : goal.returns-clause-given
@@ -25,14 +23,23 @@ returns-clause-given c =
     (λ u. absurd (version_known u))
     (λ text told open_out. inl (refl, subst (λ (t : List ℕ). Gained (got version_text 1) (pieces t) t) (sym (version_only c.one_page.ensures text told)) (refl, refl)))
 
-no_process : (body : List ℕ) → IsHeaded process_head body (codes "x") → ⊥
-no_process body e = cc (e)
-
-no_rules : (body : List ℕ) → IsHeaded rule_head body (codes "x") → ⊥
-no_rules body e = cc (e)
-
 x_some : codes "x" ≢ []
 x_some e = cc (e)
+
+pub returns-clause-refused : goal.returns-clause-refused
+returns-clause-refused c =
+    untold compile_words fetches 0 untouched (got (codes "file refused: no theory header\n") 1) 1 (1, lit< tt, refl)
+    (λ e. absurd (omega (arith, e)))
+    (λ e. record {
+      text = codes "file refused: no theory header\n";
+      cause = to_input (compile Plain (codes "f")) (alone []) refl (lit≤ tt, refl) (refused (codes "no theory header") headerless);
+      out = (refl, refl);
+      err = (refl, refl);
+    })
+    (λ e. absurd (omega (arith, e))) (λ e. absurd (omega (arith, e))) (λ e. absurd (omega (arith, e))) (λ e. absurd (omega (arith, e))) (λ e. absurd (omega (arith, e)))
+    (λ uncut. (λ e. absurd (omega (arith, e)), λ e. absurd (omega (arith, e))))
+    (λ u. absurd (compile_known u))
+    (λ text told open_out. absurd (compile_untold text told))
 
 pub returns-clause-refused_run : goal.returns-clause-refused_run
 returns-clause-refused_run c =
@@ -56,7 +63,7 @@ returns-clause-refused_run c =
             whole = refl;
             asked = refl;
           })
-          (run_refused (codes "wrong head") (no_run (bad_head (lit≤ tt) (told_neither no_process no_rules))));
+          (run_refused (codes "wrong head") headless);
       out = (refl, refl);
       err = (refl, refl);
     })
