@@ -38,3 +38,4 @@ pub mod WrittenTraces
 pub mod WrittenHeads
 pub mod DefinedNames
 pub mod WrittenBack
+pub mod WrittenFiles
