@@ -1,19 +1,20 @@
 -- Traces that small files have as they are written.
-use Rattle.std.proofs.Common.{◌≡◌, ℕ, zero, suc, List, [], ◌∷◌, Some, None, false, true, refl, ap, arith, lit<}
+use Rattle.std.proofs.Common.{◌≡◌, ℕ, zero, suc, List, [], ◌∷◌, ◌++◌, Option, Some, None, Bool, false, true, slice_get, refl, ap, arith}
 use Rattle.std.specs.Prelude.{codes, Contains, map, slice_index_or}
+use Rattle.std.specs.Str.{bytes_eq}
 use Rattle.sap_rewrite.specs.Laws.{FormIsOne}
 use Rattle.sap_terms.specs.AdversaryFacts.{k_fact}
 use Rattle.sap_terms.specs.Choice.{Choice, fits_sort}
 use Rattle.sap_terms.specs.Deduce.{a_public, a_name, applied}
 use Rattle.sap_terms.specs.Equal.{IsTheoryEqual, same}
-use Rattle.sap_terms.specs.Equations.{Equations, equations, IsDestructor, pair_name}
+use Rattle.sap_terms.specs.Equations.{Equations, equations, IsDestructor, IsInstance, first, second, symmetric, asymmetric, signing, revealing, revealed, pair_name}
 use Rattle.sap_terms.specs.Laws.{LeavesAreNormal}
 use Rattle.sap_terms.specs.Message.{IsMessage, IsMessageChoice}
 use Rattle.sap_terms.specs.Modulo.{IsFormOfFact}
 use Rattle.sap_terms.specs.Normal.{IsNormal, IsNormalForm}
 use Rattle.sap_terms.specs.Same.{same_tree}
 use Rattle.sap_terms.specs.Signature.{Sig, pairs_alone}
-use Rattle.sap_terms.specs.Tree.{Tree, public, fresh}
+use Rattle.sap_terms.specs.Tree.{Tree, public, fresh, apply, Trees, none, more}
 use Rattle.sap_terms.specs.declared.fact.Fact.{Fact}
 use Rattle.sap_terms.specs.declared.var.Sort.{Sort}
 use Rattle.sap_terms.specs.declared.var.Sort.TheVariants.{Msg, Fresh, Pub}
@@ -104,3 +105,289 @@ module _ (normal : LeavesAreNormal) where
 
     pub new_names : IsFileTrace g (naming_x ∷ []) use_named ((told_both (fresh 0) (fresh 1) ∷ []) ∷ [])
     new_names = (with_names (0 ∷ 1 ∷ []) nil, further (further (further starts first_name) second_name) named_event)
+
+-- thread t is this, and starts with that
+stood : {ds : List Definition} {os : List (Option Written)} (t : ℕ) (p : Written) (h : Head Written) → slice_get os t ≡ Some (Some p) → StartsWith ds p h → StandsAs ds os t h
+stood t p h r s = record { process = p; runs = r; head = s }
+
+other_number : (m n : ℕ) → n ≡ suc m → m ≡ n → ⊥
+other_number m n e h = omega (arith, e, h)
+
+is_b : Tree → Bool
+is_b t = same_tree t b
+
+not_b : a ≡ b → ⊥
+unfolding is_b
+not_b e = let p : false ≡ true = ap is_b e in cc
+
+module _ (normal : LeavesAreNormal) (g : Sig) where
+  -- ---- let B(z) = new ~n; event N(z,~n); let A(x) = ! B(x); A('a')
+
+  abbrev naming : List Definition
+  naming = running (naming_z ∷ naming_often ∷ [])
+
+  abbrev copied : List ℕ → List (Option Written) → ConfigOf (writing naming)
+  copied ms os = record (initial use_a) { made = ms; threads = Some use_a ∷ os }
+
+  naming_at : (n : ℕ) → Written
+  naming_at n = showing (new_at a (fresh n))
+
+  copy_of_use : (os : List (Option Written)) → ProcessStep g (copied [] os) [] (copied [] (os ++ Some (using_b a) ∷ []))
+  copy_of_use os =
+      copies 0 (stood 0 use_a (head.replicated (using_b a)) refl
+      (use_of (sorted_definition naming_often) (later_item (sorted_definition naming_z) (sorted_definition naming_often ∷ []) (sorted_definition naming_often) (first_item (sorted_definition naming_often) []))
+      (itself (head.replicated (using_b a)))))
+
+  b_starts : StartsWith naming (using_b a) (head.act (new (named (codes "n") Fresh)) (showing (new_at a (fresh_of (codes "n")))))
+  b_starts = use_of (sorted_definition naming_z) (first_item (sorted_definition naming_z) (sorted_definition naming_often ∷ [])) (itself (head.act (new (named (codes "n") Fresh)) (showing (new_at a (fresh_of (codes "n"))))))
+
+  shown_form : (t u : Tree) (n : List ℕ) → IsNormalForm (equations g) t t → IsNormalForm (equations g) u u
+      → IsFormOfFact (equations g) (record { name = n; persistent = false; args = t ∷ u ∷ [] }) (record { name = n; persistent = false; args = t ∷ u ∷ [] })
+  shown_form t u n h k = record { name = refl; persistent = refl; args = (h, (k, tt)) }
+
+  first_made : ProcessStep g (copied [] (Some (using_b a) ∷ Some (using_b a) ∷ [])) [] (copied (0 ∷ []) (Some (showing (new_at a (fresh 0))) ∷ Some (using_b a) ∷ []))
+  first_made = makes_name 1 0 (stood 1 (using_b a) (head.act (new (named (codes "n") Fresh)) (showing (new_at a (fresh_of (codes "n"))))) refl b_starts) (none_contained, none_contained)
+
+  first_told : ProcessStep g (copied (0 ∷ []) (Some (showing (new_at a (fresh 0))) ∷ Some (using_b a) ∷ [])) (new_at a (fresh 0) ∷ []) (copied (0 ∷ []) (Some nil ∷ Some (using_b a) ∷ []))
+  first_told =
+      shows 1 (stood 1 (showing (new_at a (fresh 0))) (head.act (event (new_at a (fresh 0))) nil) refl (itself (head.act (event (new_at a (fresh 0))) nil)))
+      (shown_form a (fresh 0) (codes "N") (public_form normal g (codes "a")) (fresh_form normal g 0))
+
+  second_made : ProcessStep g (copied (0 ∷ []) (Some nil ∷ Some (using_b a) ∷ [])) [] (copied (0 ∷ 1 ∷ []) (Some nil ∷ Some (showing (new_at a (fresh 1))) ∷ []))
+  second_made =
+      makes_name 2 1 (stood 2 (using_b a) (head.act (new (named (codes "n") Fresh)) (showing (new_at a (fresh_of (codes "n"))))) refl b_starts)
+      (λ h. other_number 0 1 refl (item_cases 0 1 h), none_contained)
+
+  second_told : ProcessStep g (copied (0 ∷ 1 ∷ []) (Some nil ∷ Some (showing (new_at a (fresh 1))) ∷ [])) (new_at a (fresh 1) ∷ []) (copied (0 ∷ 1 ∷ []) (Some nil ∷ Some nil ∷ []))
+  second_told =
+      shows 2 (stood 2 (showing (new_at a (fresh 1))) (head.act (event (new_at a (fresh 1))) nil) refl (itself (head.act (event (new_at a (fresh 1))) nil)))
+      (shown_form a (fresh 1) (codes "N") (public_form normal g (codes "a")) (fresh_form normal g 1))
+
+  pub each_copy : IsFileTrace g (naming_z ∷ naming_often ∷ []) use_a ((new_at a (fresh 0) ∷ []) ∷ (new_at a (fresh 1) ∷ []) ∷ [])
+  each_copy = (
+    copied (0 ∷ 1 ∷ []) (Some nil ∷ Some nil ∷ []),
+    further (further (further (further (further (further starts (copy_of_use [])) (copy_of_use (Some (using_b a) ∷ []))) first_made) first_told) second_made) second_told,
+  )
+
+  -- ---- let A(x,y) = if x = y then event Same(x) else event Apart(x,y); A('a','b')
+
+  module _ (unique : FormIsOne) where
+    apart_names : IsTheoryEqual (equations g) a b → ⊥
+    apart_names h = not_b (unique (equations g) a a b (public_form normal g (codes "a")) (record { equal = h; normal = normal.of_public_name (equations g) (codes "b") }))
+
+    goes_apart : ProcessStep g {kind = writing (running (testing ∷ []))} (initial use_testing) [] (initial (showing (two_apart a b)))
+    goes_apart =
+        differs 0 (stood 0 use_testing (head.test a b (showing (same_one a)) (showing (two_apart a b))) refl
+        (use_of (sorted_definition testing) (first_item (sorted_definition testing) []) (itself (head.test a b (showing (same_one a)) (showing (two_apart a b))))))
+        apart_names
+
+    told_apart : ProcessStep g {kind = writing (running (testing ∷ []))} (initial (showing (two_apart a b))) (two_apart a b ∷ []) (initial nil)
+    told_apart =
+        shows 0 (stood 0 (showing (two_apart a b)) (head.act (event (two_apart a b)) nil) refl (itself (head.act (event (two_apart a b)) nil)))
+        (shown_form a b (codes "Apart") (public_form normal g (codes "a")) (public_form normal g (codes "b")))
+
+    pub apart : IsFileTrace g (testing ∷ []) use_testing ((two_apart a b ∷ []) ∷ [])
+    apart = (initial nil, further (further starts goes_apart) told_apart)
+
+  -- ---- let C = event E(y); in(y); C
+
+  abbrev plain_told : List Definition
+  plain_told = running (telling_y ∷ [])
+
+  gets_y : ProcessStep g {kind = writing plain_told} (initial (taking (of_name (codes "y")) (telling (of_name (codes "y"))))) (k_fact a ∷ []) (initial (telling a))
+  gets_y =
+      inputs 0 (choosing a 0)
+      (stood 0 (taking (of_name (codes "y")) (telling (of_name (codes "y")))) (head.act (input (of_name (codes "y"))) (telling (of_name (codes "y")))) refl
+      (itself (head.act (input (of_name (codes "y"))) (telling (of_name (codes "y"))))))
+      (gives_public normal g (initial (taking (of_name (codes "y")) (telling (of_name (codes "y"))))) (codes "a"))
+      (record { messages = choosing_messages normal g (codes "a") 0; equal = same })
+
+  tells_y : ProcessStep g {kind = writing plain_told} (initial (telling a)) (told a ∷ []) (initial nil)
+  tells_y =
+      shows 0 (stood 0 (telling a) (head.act (event (told a)) nil) refl (itself (head.act (event (told a)) nil)))
+      (record { name = refl; persistent = refl; args = (public_form normal g (codes "a"), tt) })
+
+  pub plain_name : IsFileTrace g (telling_y ∷ []) use_plain ((k_fact a ∷ []) ∷ (told a ∷ []) ∷ [])
+  plain_name = (initial nil, further (further starts gets_y) tells_y)
+
+  -- ---- let Put(key,value) = insert key, value; event Put(key,value); (new ~k; Put('a',~k)) | Put('b','x')
+
+  abbrev puts : List Definition
+  puts = running (putting ∷ [])
+
+  abbrev store_of : List ℕ → (Tree → Option Tree) → List (Option Written) → ConfigOf (writing puts)
+  store_of ms s os = record (initial nil) { made = ms; store = s; threads = os }
+
+  abbrev nothing_stored : Tree → Option Tree
+  nothing_stored t = None
+
+  abbrev stored_a : Tree → Option Tree
+  stored_a = stored nothing_stored a (Some (fresh 0))
+
+  abbrev stored_b : Tree → Option Tree
+  stored_b = stored stored_a b (Some x_name)
+
+  abbrev new_put : Written
+  new_put = news (codes "k") (using_put a (fresh_of (codes "k")))
+
+  put_starts : (t u : Tree) → StartsWith puts (using_put t u) (head.act (insert t u) (showing (put_at t u)))
+  put_starts t u = use_of (sorted_definition putting) (first_item (sorted_definition putting) []) (itself (head.act (insert t u) (showing (put_at t u))))
+
+  two_puts : ProcessStep g (store_of [] nothing_stored (Some use_store ∷ [])) [] (store_of [] nothing_stored (Some new_put ∷ Some (using_put b x_name) ∷ []))
+  two_puts = splits 0 (stood 0 use_store (head.parallel new_put (using_put b x_name)) refl (itself (head.parallel new_put (using_put b x_name))))
+
+  key_made : ProcessStep g (store_of [] nothing_stored (Some new_put ∷ Some (using_put b x_name) ∷ [])) []
+      (store_of (0 ∷ []) nothing_stored (Some (using_put a (fresh 0)) ∷ Some (using_put b x_name) ∷ []))
+  key_made =
+      makes_name 0 0 (stood 0 new_put (head.act (new (named (codes "k") Fresh)) (using_put a (fresh_of (codes "k")))) refl
+      (itself (head.act (new (named (codes "k") Fresh)) (using_put a (fresh_of (codes "k")))))) (none_contained, none_contained)
+
+  first_put : ProcessStep g (store_of (0 ∷ []) nothing_stored (Some (using_put a (fresh 0)) ∷ Some (using_put b x_name) ∷ [])) []
+      (store_of (0 ∷ []) stored_a (Some (showing (put_at a (fresh 0))) ∷ Some (using_put b x_name) ∷ []))
+  first_put =
+      inserts 0 (stood 0 (using_put a (fresh 0)) (head.act (insert a (fresh 0)) (showing (put_at a (fresh 0)))) refl (put_starts a (fresh 0)))
+      (public_form normal g (codes "a")) (fresh_form normal g 0)
+
+  first_shown : ProcessStep g (store_of (0 ∷ []) stored_a (Some (showing (put_at a (fresh 0))) ∷ Some (using_put b x_name) ∷ [])) (put_at a (fresh 0) ∷ [])
+      (store_of (0 ∷ []) stored_a (Some nil ∷ Some (using_put b x_name) ∷ []))
+  first_shown =
+      shows 0 (stood 0 (showing (put_at a (fresh 0))) (head.act (event (put_at a (fresh 0))) nil) refl (itself (head.act (event (put_at a (fresh 0))) nil)))
+      (shown_form a (fresh 0) (codes "Put") (public_form normal g (codes "a")) (fresh_form normal g 0))
+
+  second_put : ProcessStep g (store_of (0 ∷ []) stored_a (Some nil ∷ Some (using_put b x_name) ∷ [])) []
+      (store_of (0 ∷ []) stored_b (Some nil ∷ Some (showing (put_at b x_name)) ∷ []))
+  second_put =
+      inserts 1 (stood 1 (using_put b x_name) (head.act (insert b x_name) (showing (put_at b x_name))) refl (put_starts b x_name))
+      (public_form normal g (codes "b")) (public_form normal g (codes "x"))
+
+  second_shown : ProcessStep g (store_of (0 ∷ []) stored_b (Some nil ∷ Some (showing (put_at b x_name)) ∷ [])) (put_at b x_name ∷ [])
+      (store_of (0 ∷ []) stored_b (Some nil ∷ Some nil ∷ []))
+  second_shown =
+      shows 1 (stood 1 (showing (put_at b x_name)) (head.act (event (put_at b x_name)) nil) refl (itself (head.act (event (put_at b x_name)) nil)))
+      (shown_form b x_name (codes "Put") (public_form normal g (codes "b")) (public_form normal g (codes "x")))
+
+  pub store : IsFileTrace g (putting ∷ []) use_store ((put_at a (fresh 0) ∷ []) ∷ (put_at b x_name ∷ []) ∷ [])
+  store = (
+    store_of (0 ∷ []) stored_b (Some nil ∷ Some nil ∷ []),
+    further (further (further (further (further (further starts two_puts) key_made) first_put) first_shown) second_put) second_shown,
+  )
+
+-- ---- what the adversary makes
+
+either : (t u : Tree) (k : ℕ) (d : Tree) → slice_index_or (t ∷ u ∷ []) k (slice_index_or (t ∷ u ∷ []) k d) ≡ slice_index_or (t ∷ u ∷ []) k d
+either t u zero d = refl
+either t u (suc zero) d = refl
+either t u (suc (suc k)) d = refl
+
+-- the symbol at the root is that of pairs
+heads_pair : Tree → Bool
+heads_pair (apply f ts) = bytes_eq f pair_name
+heads_pair t = false
+
+no_left_pair : (e : Equations) (t r : Tree) → IsInstance e t r → heads_pair t ≡ false
+unfolding heads_pair
+no_left_pair e t r first = refl
+no_left_pair e t r second = refl
+no_left_pair e t r (symmetric s) = refl
+no_left_pair e t r (asymmetric s) = refl
+no_left_pair e t r (signing s) = refl
+no_left_pair e t r (revealing s) = refl
+no_left_pair e t r (revealed s) = refl
+
+no_destructor : (e : Equations) → ¬ IsDestructor e pair_name
+unfolding heads_pair
+no_destructor e d = let p = no_left_pair e (apply pair_name d.args) d.right d.is_left in cc
+
+module _ (normal : LeavesAreNormal) where
+  abbrev pairs : Equations
+  pairs = equations pairs_alone
+
+  pair_form : (t u : Tree) → IsNormal pairs t → IsNormal pairs u → IsNormalForm pairs (both t u) (both t u)
+  pair_form t u h k = record { equal = same; normal = normal.of_symbol pairs pair_name (more t (more u none)) (no_destructor pairs) (h, (k, tt)) }
+
+  -- ---- let A(k) = in(<~x,x>); event Got(x,k); A('a')
+
+  abbrev takes_twice : List Definition
+  takes_twice = running (taking_twice ∷ [])
+
+  abbrev owning : List ℕ → Written → ConfigOf (writing takes_twice)
+  owning ns p = record (initial p) { own = ns }
+
+  own_name : ProcessStep pairs_alone (owning [] use_a) [] (owning (1 ∷ []) use_a)
+  own_name = adversary_makes 1 (none_contained, none_contained)
+
+  gives_twice : CanGive pairs_alone (owning (1 ∷ []) use_a) (both (fresh 1) (fresh 1))
+  gives_twice =
+      let form = pair_form (fresh 1) (fresh 1) (normal.of_fresh_name pairs 1) (normal.of_fresh_name pairs 1) in
+      record {
+        deducible = record {
+          form = both (fresh 1) (fresh 1);
+          is_form = form;
+          earlier = fresh 1 ∷ fresh 1 ∷ [];
+          derivation = (
+            applied pair_name (fresh 1 ∷ fresh 1 ∷ []) refl refl (λ k d h. (k, h, either (fresh 1) (fresh 1) k d)) form,
+            (a_name 1 (first_item 1 []) refl, (a_name 1 (first_item 1 []) refl, tt)),
+          );
+        };
+        normal = form.normal;
+      }
+
+  gets_twice : ProcessStep pairs_alone (owning (1 ∷ []) use_a) (k_fact (both (fresh 1) (fresh 1)) ∷ []) (owning (1 ∷ []) (showing (got_at (fresh 1) a)))
+  gets_twice =
+      inputs 0 (choosing a 1)
+      (stood 0 use_a (head.act (input (both (fresh_of (codes "x")) (fresh_of (codes "x")))) (showing (got_at (fresh_of (codes "x")) a))) refl
+      (use_of (sorted_definition taking_twice) (first_item (sorted_definition taking_twice) [])
+      (itself (head.act (input (both (fresh_of (codes "x")) (fresh_of (codes "x")))) (showing (got_at (fresh_of (codes "x")) a))))))
+      gives_twice (record { messages = choosing_messages normal pairs_alone (codes "a") 1; equal = same })
+
+  tells_got : ProcessStep pairs_alone (owning (1 ∷ []) (showing (got_at (fresh 1) a))) (got_at (fresh 1) a ∷ []) (owning (1 ∷ []) nil)
+  tells_got =
+      shows 0 (stood 0 (showing (got_at (fresh 1) a)) (head.act (event (got_at (fresh 1) a)) nil) refl (itself (head.act (event (got_at (fresh 1) a)) nil)))
+      (shown_form normal pairs_alone (fresh 1) a (codes "Got") (fresh_form normal pairs_alone 1) (public_form normal pairs_alone (codes "a")))
+
+  pub one_sort : IsFileTrace pairs_alone (taking_twice ∷ []) use_a ((k_fact (both (fresh 1) (fresh 1)) ∷ []) ∷ (got_at (fresh 1) a ∷ []) ∷ [])
+  one_sort = (owning (1 ∷ []) nil, further (further (further starts own_name) gets_twice) tells_got)
+
+  -- ---- let A(x) = in(<y,x>); event E(x,y); in(y); A(y)
+
+  abbrev takes_other : List Definition
+  takes_other = running (taking_other ∷ [])
+
+  takes_y : ProcessStep pairs_alone {kind = writing takes_other} (initial use_taken) (k_fact a ∷ []) (initial use_a)
+  takes_y =
+      inputs 0 (choosing a 0)
+      (stood 0 use_taken (head.act (input (of_name (codes "y"))) (using_a (of_name (codes "y")))) refl (itself (head.act (input (of_name (codes "y"))) (using_a (of_name (codes "y"))))))
+      (gives_public normal pairs_alone (initial use_taken) (codes "a"))
+      (record { messages = choosing_messages normal pairs_alone (codes "a") 0; equal = same })
+
+  gives_other : CanGive pairs_alone {k = writing takes_other} (initial use_a) (both b a)
+  gives_other =
+      let form = pair_form b a (normal.of_public_name pairs (codes "b")) (normal.of_public_name pairs (codes "a")) in
+      record {
+        deducible = record {
+          form = both b a;
+          is_form = form;
+          earlier = b ∷ a ∷ [];
+          derivation = (
+            applied pair_name (b ∷ a ∷ []) refl refl (λ k d h. (k, h, either b a k d)) form,
+            (a_public (codes "b") refl, (a_public (codes "a") refl, tt)),
+          );
+        };
+        normal = form.normal;
+      }
+
+  gets_other : ProcessStep pairs_alone {kind = writing takes_other} (initial use_a) (k_fact (both b a) ∷ []) (initial (showing (told_both a b)))
+  gets_other =
+      inputs 0 (choosing b 0)
+      (stood 0 use_a (head.act (input (both (of_name (codes "y")) a)) (showing (told_both a (of_name (codes "y"))))) refl
+      (use_of (sorted_definition taking_other) (first_item (sorted_definition taking_other) [])
+      (itself (head.act (input (both (of_name (codes "y")) a)) (showing (told_both a (of_name (codes "y"))))))))
+      gives_other (record { messages = choosing_messages normal pairs_alone (codes "b") 0; equal = same })
+
+  tells_other : ProcessStep pairs_alone {kind = writing takes_other} (initial (showing (told_both a b))) (told_both a b ∷ []) (initial nil)
+  tells_other =
+      shows 0 (stood 0 (showing (told_both a b)) (head.act (event (told_both a b)) nil) refl (itself (head.act (event (told_both a b)) nil)))
+      (shown_form normal pairs_alone a b (codes "E") (public_form normal pairs_alone (codes "a")) (public_form normal pairs_alone (codes "b")))
+
+  pub own_binder : IsFileTrace pairs_alone (taking_other ∷ []) use_taken ((k_fact a ∷ []) ∷ (k_fact (both b a) ∷ []) ∷ (told_both a b ∷ []) ∷ [])
+  own_binder = (initial nil, further (further (further starts takes_y) gets_other) tells_other)

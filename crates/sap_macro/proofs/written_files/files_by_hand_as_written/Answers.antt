@@ -1,5 +1,23 @@
-use Rattle.sap_macro.proofs.WrittenFiles.{new_names}
+use Rattle.sap_macro.proofs.WrittenFiles.{apart, each_copy, new_names, one_sort, own_binder, plain_name, store}
 use Rattle.sap_macro.proofs.written_files.files_by_hand_as_written.Goals as goal
 
 pub returns-clause-new_names : goal.returns-clause-new_names
 returns-clause-new_names c = new_names c.leaves_are_normal.ensures
+
+pub returns-clause-each_copy : goal.returns-clause-each_copy
+returns-clause-each_copy c = each_copy c.leaves_are_normal.ensures
+
+pub returns-clause-one_sort : goal.returns-clause-one_sort
+returns-clause-one_sort c = one_sort c.leaves_are_normal.ensures
+
+pub returns-clause-own_binder : goal.returns-clause-own_binder
+returns-clause-own_binder c = own_binder c.leaves_are_normal.ensures
+
+pub returns-clause-apart : goal.returns-clause-apart
+returns-clause-apart c = λ g. apart c.leaves_are_normal.ensures g c.normal_forms_are_unique.ensures
+
+pub returns-clause-plain_name : goal.returns-clause-plain_name
+returns-clause-plain_name c = plain_name c.leaves_are_normal.ensures
+
+pub returns-clause-store : goal.returns-clause-store
+returns-clause-store c = store c.leaves_are_normal.ensures
