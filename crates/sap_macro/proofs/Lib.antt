@@ -39,3 +39,5 @@ pub mod WrittenHeads
 pub mod DefinedNames
 pub mod WrittenBack
 pub mod WrittenFiles
+pub mod WrittenKeeping
+pub mod WrittenLacks

@@ -58,10 +58,10 @@ module _ (ds : List Definition) where
   starts_as _ h k (use_of d {ts = ts} c s) e = absurd (no_form k d.name ts e)
 
   -- a form starts with itself alone
-  form_alone : (h k : Head Written) → StartsWith ds (written_of k) h → h ≡ k
+  pub form_alone : (h k : Head Written) → StartsWith ds (written_of k) h → h ≡ k
   form_alone h k s = starts_as (written_of k) h k s refl
 
-  record Defines (f : List ℕ) (ts : List Tree) (h : Head Written) : Type 0 where
+  pub record Defines (f : List ℕ) (ts : List Tree) (h : Head Written) : Type 0 where
     pub definition : Definition
     pub there : Contains ds definition
     pub named : definition.name ≡ f
@@ -74,14 +74,14 @@ module _ (ds : List Definition) where
       let same_terms : us ≡ ts = cc in
       record { definition = d; there = c; named = same_name; starts = subst (λ xs. StartsWith ds (instance_by d xs) h) same_terms s }
 
-  use_alone : (h : Head Written) (f : List ℕ) (ts : List Tree) → StartsWith ds (call f ts) h → Defines f ts h
+  pub use_alone : (h : Head Written) (f : List ℕ) (ts : List Tree) → StartsWith ds (call f ts) h → Defines f ts h
   use_alone h f ts s = starts_as_use (call f ts) h f ts s refl
 
 -- names that a test tells apart are two
-other_name : (x y : List ℕ) → bytes_eq x y ≡ false → bytes_eq y y ≡ true → ¬ (x ≡ y)
+pub other_name : (x y : List ℕ) → bytes_eq x y ≡ false → bytes_eq y y ≡ true → ¬ (x ≡ y)
 other_name x y h k e = true≢false (sym k ∙ sym (ap (λ z. bytes_eq z y) e) ∙ h)
 
-one_of_two : (P : Definition → Type 0) (d e f : Definition) → Contains (d ∷ e ∷ []) f → P d → P e → P f
+pub one_of_two : (P : Definition → Type 0) (d e f : Definition) → Contains (d ∷ e ∷ []) f → P d → P e → P f
 one_of_two P d e f c p q =
     ⊎_elim (λ s. subst P s p) (λ k. subst P (item_cases e f k) q) (cons_cases d (e ∷ []) f c)
 

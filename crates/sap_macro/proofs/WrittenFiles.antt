@@ -56,10 +56,10 @@ abbrev choosing : Tree → ℕ → Choice
 choosing t k v = chosen_for t k v.sort
 
 module _ (normal : LeavesAreNormal) where
-  public_form : (g : Sig) (n : List ℕ) → IsNormalForm (equations g) (public n) (public n)
+  pub public_form : (g : Sig) (n : List ℕ) → IsNormalForm (equations g) (public n) (public n)
   public_form g n = record { equal = same; normal = normal.of_public_name (equations g) n }
 
-  fresh_form : (g : Sig) (k : ℕ) → IsNormalForm (equations g) (fresh k) (fresh k)
+  pub fresh_form : (g : Sig) (k : ℕ) → IsNormalForm (equations g) (fresh k) (fresh k)
   fresh_form g k = record { equal = same; normal = normal.of_fresh_name (equations g) k }
 
   fits_all : (g : Sig) (n : List ℕ) (k : ℕ) (s : Sort) → IsMessage g s (chosen_for (public n) k s)
@@ -172,7 +172,7 @@ module _ (normal : LeavesAreNormal) (g : Sig) where
   -- ---- let A(x,y) = if x = y then event Same(x) else event Apart(x,y); A('a','b')
 
   module _ (unique : FormIsOne) where
-    apart_names : IsTheoryEqual (equations g) a b → ⊥
+    pub apart_names : IsTheoryEqual (equations g) a b → ⊥
     apart_names h = not_b (unique (equations g) a a b (public_form normal g (codes "a")) (record { equal = h; normal = normal.of_public_name (equations g) (codes "b") }))
 
     goes_apart : ProcessStep g {kind = writing (running (testing ∷ []))} (initial use_testing) [] (initial (showing (two_apart a b)))

@@ -27,6 +27,7 @@ pub fn files_by_hand_as_written()
     ensures own_binder { IsFileTrace pairs_alone (taking_other ∷ []) use_taken
         ((k_fact a ∷ []) ∷ (k_fact (both b a) ∷ []) ∷ (told_both a b ∷ []) ∷ []) }
     ensures apart { (g : Sig) → IsFileTrace g (testing ∷ []) use_testing ((two_apart a b ∷ []) ∷ []) }
+    ensures not_swapped { (g : Sig) (tr : Trace) → IsFileTrace g (testing ∷ []) use_testing tr → ¬ Contains tr (two_apart b a ∷ []) }
     ensures plain_name { (g : Sig) → IsFileTrace g (telling_y ∷ []) use_plain ((k_fact a ∷ []) ∷ (told a ∷ []) ∷ []) }
     ensures store { (g : Sig) → IsFileTrace g (putting ∷ []) use_store ((put_at a (fresh 0) ∷ []) ∷ (put_at b x_name ∷ []) ∷ []) }
 {

@@ -1,4 +1,5 @@
 use Rattle.sap_macro.proofs.WrittenFiles.{apart, each_copy, new_names, one_sort, own_binder, plain_name, store}
+use Rattle.sap_macro.proofs.WrittenLacks.{not_swapped}
 use Rattle.sap_macro.proofs.written_files.files_by_hand_as_written.Goals as goal
 
 pub returns-clause-new_names : goal.returns-clause-new_names
@@ -21,3 +22,6 @@ returns-clause-plain_name c = plain_name c.leaves_are_normal.ensures
 
 pub returns-clause-store : goal.returns-clause-store
 returns-clause-store c = store c.leaves_are_normal.ensures
+
+pub returns-clause-not_swapped : goal.returns-clause-not_swapped
+returns-clause-not_swapped c = not_swapped c.leaves_are_normal.ensures c.normal_forms_are_unique.ensures
