@@ -20,8 +20,10 @@ use sap_terms::leaves_are_normal;
 /// for its body before anything runs, so it sees what is bound above it; and an insertion has its own arguments.
 pub fn files_by_hand_as_written()
     ensures new_names { (g : Sig) → IsFileTrace g (naming_x ∷ []) use_named ((told_both (fresh 0) (fresh 1) ∷ []) ∷ []) }
+    ensures not_one_name { (g : Sig) (tr : Trace) (t : Tree) → IsFileTrace g (naming_x ∷ []) use_named tr → ¬ Contains tr (told_both t t ∷ []) }
     ensures each_copy { (g : Sig) → IsFileTrace g (naming_z ∷ naming_often ∷ []) use_a
         ((new_at a (fresh 0) ∷ []) ∷ (new_at a (fresh 1) ∷ []) ∷ []) }
+    ensures not_of_other { (g : Sig) (tr : Trace) (t : Tree) → IsFileTrace g (naming_z ∷ naming_often ∷ []) use_a tr → ¬ Contains tr (new_at b t ∷ []) }
     ensures one_sort { IsFileTrace pairs_alone (taking_twice ∷ []) use_a
         ((k_fact (both (fresh 1) (fresh 1)) ∷ []) ∷ (got_at (fresh 1) a ∷ []) ∷ []) }
     ensures own_binder { IsFileTrace pairs_alone (taking_other ∷ []) use_taken
@@ -29,7 +31,9 @@ pub fn files_by_hand_as_written()
     ensures apart { (g : Sig) → IsFileTrace g (testing ∷ []) use_testing ((two_apart a b ∷ []) ∷ []) }
     ensures not_swapped { (g : Sig) (tr : Trace) → IsFileTrace g (testing ∷ []) use_testing tr → ¬ Contains tr (two_apart b a ∷ []) }
     ensures plain_name { (g : Sig) → IsFileTrace g (telling_y ∷ []) use_plain ((k_fact a ∷ []) ∷ (told a ∷ []) ∷ []) }
+    ensures not_variable { (g : Sig) (tr : Trace) → IsFileTrace g (telling_y ∷ []) use_plain tr → ¬ Contains tr (told (of_name (codes "y")) ∷ []) }
     ensures store { (g : Sig) → IsFileTrace g (putting ∷ []) use_store ((put_at a (fresh 0) ∷ []) ∷ (put_at b x_name ∷ []) ∷ []) }
+    ensures not_put { (g : Sig) (tr : Trace) → IsFileTrace g (putting ∷ []) use_store tr → ¬ Contains tr (put_at a x_name ∷ []) }
 {
     equality_is_kept();
     leaves_are_normal();

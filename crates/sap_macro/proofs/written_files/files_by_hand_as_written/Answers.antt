@@ -1,5 +1,5 @@
 use Rattle.sap_macro.proofs.WrittenFiles.{apart, each_copy, new_names, one_sort, own_binder, plain_name, store}
-use Rattle.sap_macro.proofs.WrittenLacks.{not_swapped}
+use Rattle.sap_macro.proofs.WrittenLacks.{not_of_other, not_one_name, not_put, not_swapped, not_variable}
 use Rattle.sap_macro.proofs.written_files.files_by_hand_as_written.Goals as goal
 
 pub returns-clause-new_names : goal.returns-clause-new_names
@@ -25,3 +25,15 @@ returns-clause-store c = store c.leaves_are_normal.ensures
 
 pub returns-clause-not_swapped : goal.returns-clause-not_swapped
 returns-clause-not_swapped c = not_swapped c.leaves_are_normal.ensures c.normal_forms_are_unique.ensures
+
+pub returns-clause-not_one_name : goal.returns-clause-not_one_name
+returns-clause-not_one_name c = not_one_name c.leaves_are_normal.ensures c.normal_forms_are_unique.ensures
+
+pub returns-clause-not_of_other : goal.returns-clause-not_of_other
+returns-clause-not_of_other c = not_of_other c.leaves_are_normal.ensures c.normal_forms_are_unique.ensures
+
+pub returns-clause-not_put : goal.returns-clause-not_put
+returns-clause-not_put c = not_put c.leaves_are_normal.ensures c.normal_forms_are_unique.ensures
+
+pub returns-clause-not_variable : goal.returns-clause-not_variable
+returns-clause-not_variable c = not_variable c.normal_forms_are_unique.ensures c.equality_is_kept.ensures
