@@ -1,37 +1,41 @@
 -- Traces that small files lack, as they are written.
-use Rattle.std.proofs.Common.{◌≡◌, ℕ, zero, suc, List, [], ◌∷◌, ◌++◌, Some, None, Bool, false, true, refl, sym, ap, subst, ◌∙◌}
-use Rattle.std.specs.Prelude.{codes, Contains}
+use Rattle.std.proofs.Common.{◌≡◌, ℕ, zero, suc, List, [], ◌∷◌, ◌++◌, Some, None, Bool, false, true, refl, sym, ap, subst, ◌∙◌, inl, inr}
+use Rattle.std.specs.Prelude.{◌⊎◌, codes, Contains}
 use Rattle.std.specs.List.{AllZip}
 use Rattle.std.specs.Str.{bytes_eq}
 use Rattle.std.proofs.lemmas.List.Elements.{Contains-append_left, Contains-append_right}
 use Rattle.sap_rewrite.specs.Laws.{FormIsOne, EqualityIsKept}
 use Rattle.sap_terms.specs.AdversaryFacts.{k_fact}
-use Rattle.sap_terms.specs.Equal.{IsTheoryEqual, same}
-use Rattle.sap_terms.specs.Equations.{equations}
+use Rattle.sap_terms.specs.Choice.{Choice}
+use Rattle.sap_terms.specs.Equal.{IsTheoryEqual, same, next, forward, backward}
+use Rattle.sap_terms.specs.Equations.{Equations, equations, first, second, fst_name, snd_name}
 use Rattle.sap_terms.specs.Ground.{IsGround}
 use Rattle.sap_terms.specs.Laws.{LeavesAreNormal}
 use Rattle.sap_terms.specs.Modulo.{IsFormOfFact}
 use Rattle.sap_terms.specs.Normal.{IsNormalForm}
 use Rattle.sap_terms.specs.Signature.{Sig}
 use Rattle.sap_terms.specs.Trace.{Trace}
-use Rattle.sap_terms.specs.Tree.{Tree, public, fresh}
+use Rattle.sap_terms.specs.Tree.{Tree, public, fresh, apply, trees_of}
+use Rattle.sap_terms.specs.Variables.{tree_vars}
 use Rattle.sap_terms.specs.declared.fact.Fact.{Fact}
 use Rattle.sap_terms.specs.declared.var.Sort.TheVariants.{Msg, Fresh}
 use Rattle.sap_process.specs.Action.{new, input, event, insert}
 use Rattle.sap_process.specs.Head as head
 use Rattle.sap_process.specs.Head.{Head}
+use Rattle.sap_process.specs.ProcessSteps.{chosen}
 use Rattle.sap_macro.specs.ExpansionExamples.{a, b, of_name, fresh_of, news, taking}
 use Rattle.sap_macro.specs.Instances.{instance_by}
+use Rattle.sap_macro.specs.NameExamples.{both}
 use Rattle.sap_macro.specs.SortedExamples.{using_b}
 use Rattle.sap_macro.specs.UpToNames.{named}
 use Rattle.sap_macro.specs.Written.{Written, nil, call, Definition}
-use Rattle.sap_macro.specs.WrittenExamples.{told, told_both, new_at, same_one, two_apart, put_at, showing, telling, using_a, using_put, use_a, naming_x, use_named, naming_z, naming_often, testing, use_testing, telling_y, use_plain, putting, x_name, use_store}
+use Rattle.sap_macro.specs.WrittenExamples.{told, told_both, new_at, got_at, taking_twice, taking_other, use_taken, same_one, two_apart, put_at, showing, telling, using_a, using_put, use_a, naming_x, use_named, naming_z, naming_often, testing, use_testing, telling_y, use_plain, putting, x_name, use_store}
 use Rattle.sap_macro.specs.WrittenRuns.{StartsWith, sorted_definition, IsFileTrace}
 use Rattle.sap_macro.proofs.WrittenByHand.{form_alone, use_alone, other_name, one_of_two}
-use Rattle.sap_macro.proofs.GroundForms.{form_is_ground}
+use Rattle.sap_macro.proofs.GroundForms.{form_is_ground, ground_stays}
 use Rattle.sap_macro.proofs.WrittenFiles.{running, public_form, fresh_form, apart_names}
 use Rattle.sap_macro.proofs.WrittenKeeping.{Keeps, Holds, shows_none, is_not_shown}
-use Rattle.sap_terms.proofs.PlainLaws.Items.{first_item, item_cases}
+use Rattle.sap_terms.proofs.PlainLaws.Items.{first_item, item_cases, cons_cases, none_contained}
 
 -- behind one definition a use starts with what the instance starts with
 one_use : (d : Definition) (ts : List Tree) (h : Head Written) → StartsWith (d ∷ []) (call d.name ts) h → StartsWith (d ∷ []) (instance_by d ts) h
@@ -326,3 +330,192 @@ module _ (normal : LeavesAreNormal) (unique : FormIsOne) (g : Sig) where
   not_one_name tr t is m =
       let clean = shows_none g twice Twice ToldTwice twice_holds use_named whole_twice tr is in
       (is_not_shown g twice Twice ToldTwice [] tr (told_both t t ∷ []) clean m).1 (t, refl)
+
+-- ---- let A(k) = in(<~x,x>); event Got(x,k); A('a')
+
+module _ (kept : EqualityIsKept) (e : Equations) where
+  firsts : (t u v w : Tree) → IsTheoryEqual e (both t u) (both v w) → IsTheoryEqual e t v
+  firsts t u v w h =
+      kept.onwards e t (apply fst_name (trees_of (both t u ∷ []))) v (next (backward first) same)
+      (kept.onwards e (apply fst_name (trees_of (both t u ∷ []))) (apply fst_name (trees_of (both v w ∷ []))) v
+      (kept.under_symbols e fst_name (both t u ∷ []) (both v w ∷ []) (h, tt)) (next (forward first) same))
+
+  seconds : (t u v w : Tree) → IsTheoryEqual e (both t u) (both v w) → IsTheoryEqual e u w
+  seconds t u v w h =
+      kept.onwards e u (apply snd_name (trees_of (both t u ∷ []))) w (next (backward second) same)
+      (kept.onwards e (apply snd_name (trees_of (both t u ∷ []))) (apply snd_name (trees_of (both v w ∷ []))) w
+      (kept.under_symbols e snd_name (both t u ∷ []) (both v w ∷ []) (h, tt)) (next (forward second) same))
+
+-- the first argument of the first fact
+first_term : List Tree → Tree
+first_term [] = a
+first_term (t ∷ ts) = t
+
+first_arg : List Fact → Tree
+first_arg [] = a
+first_arg (f ∷ fs) = first_term f.args
+
+one_known : (t u : Tree) → k_fact t ∷ [] ≡ k_fact u ∷ [] → t ≡ u
+unfolding first_arg first_term
+one_known t u e = ap first_arg e
+
+-- the pattern's name stands for one term, in both places
+data Twin (g : Sig) : Trace → List ℕ → Written → Type 0 where
+  whole_twin : {tr : Trace} {m : List ℕ} → Twin g tr m use_a
+  got_one : {tr : Trace} {m : List ℕ} (s x : Tree) → Contains tr (k_fact x ∷ []) → IsTheoryEqual (equations g) (both s s) x → Twin g tr m (showing (got_at s a))
+  ended_twin : {tr : Trace} {m : List ℕ} → Twin g tr m nil
+
+twin_more_made : {g : Sig} {tr : Trace} {m n : List ℕ} {w : Written} → Twin g tr m w → Twin g tr n w
+twin_more_made whole_twin = whole_twin
+twin_more_made (got_one s x c h) = got_one s x c h
+twin_more_made ended_twin = ended_twin
+
+twin_more_shown : {g : Sig} {tr : Trace} {m : List ℕ} {w : Written} (fs : List Fact) → Twin g tr m w → Twin g (tr ++ fs ∷ []) m w
+twin_more_shown fs whole_twin = whole_twin
+twin_more_shown {tr = tr} fs (got_one s x c h) = got_one s x (Contains-append_left tr (fs ∷ []) (k_fact x ∷ []) c) h
+twin_more_shown fs ended_twin = ended_twin
+
+module _ (normal : LeavesAreNormal) (unique : FormIsOne) (kept : EqualityIsKept) (g : Sig) where
+  abbrev twins : List Definition
+  twins = running (taking_twice ∷ [])
+
+  -- K(<~1,'a'>)
+  abbrev knows_other : List Fact
+  knows_other = k_fact (both (fresh 1) a) ∷ []
+
+  abbrev GotBehind : Trace → List Fact → Type 0
+  GotBehind tr fs = (tr ≡ knows_other ∷ []) × ((t : Tree) × (fs ≡ got_at t a ∷ []))
+
+  no_twin : (s x : Tree) → Contains (knows_other ∷ []) (k_fact x ∷ []) → IsTheoryEqual (equations g) (both s s) x → ⊥
+  no_twin s x c h =
+      let is : x ≡ both (fresh 1) a = sym (one_known (both (fresh 1) a) x (item_cases knows_other (k_fact x ∷ []) c)) in
+      let equal : IsTheoryEqual (equations g) (both s s) (both (fresh 1) a) = subst (IsTheoryEqual (equations g) (both s s)) is h in
+      let one : IsTheoryEqual (equations g) (fresh 1) s = kept.back (equations g) s (fresh 1) (firsts kept (equations g) s s (fresh 1) a equal) in
+      let other : IsTheoryEqual (equations g) (fresh 1) a = kept.onwards (equations g) (fresh 1) s a one (seconds kept (equations g) s s (fresh 1) a equal) in
+      let no : fresh 1 ≡ a = unique (equations g) (fresh 1) (fresh 1) a (fresh_form normal g 1) (record { equal = other; normal = normal.of_public_name (equations g) (codes "a") }) in
+      cc
+
+  abbrev gets_twin : Head Written
+  gets_twin = head.act (input (both (fresh_of (codes "x")) (fresh_of (codes "x")))) (showing (got_at (fresh_of (codes "x")) a))
+
+  twin_heads : (tr : Trace) (m : List ℕ) (w : Written) (h : Head Written) → Twin g tr m w → StartsWith twins w h → Keeps g twins (Twin g) GotBehind tr m h
+  twin_heads tr m _ h whole_twin s =
+      subst (Keeps g twins (Twin g) GotBehind tr m) (sym (form_alone twins h gets_twin (one_use (sorted_definition taking_twice) (a ∷ []) h s)))
+      (λ σ x fits. got_one (σ (named (codes "x") Fresh)) x (Contains-append_right tr ((k_fact x ∷ []) ∷ []) (k_fact x ∷ []) (first_item (k_fact x ∷ []) [])) fits.equal)
+  twin_heads tr m _ h (got_one t x c i) s =
+      subst (Keeps g twins (Twin g) GotBehind tr m) (sym (form_alone twins h (head.act (event (got_at t a)) nil) s))
+      (λ k f. (λ e. no_twin t x (subst (λ us. Contains us (k_fact x ∷ [])) e.0 c) i, ended_twin))
+  twin_heads tr m _ h ended_twin s = subst (Keeps g twins (Twin g) GotBehind tr m) (sym (form_alone twins h head.nil s)) tt
+
+  twin_holds : Holds g twins (Twin g) GotBehind
+  twin_holds = record {
+    more_made = λ tr m n w. twin_more_made;
+    more_shown = λ tr m fs w. twin_more_shown fs;
+    heads = twin_heads;
+    known = λ tr t e. no_k (got_at e.1.0 a) t refl e.1.1;
+  }
+
+  pub not_two_sorts : (t : Tree) (tr : Trace) → ¬ IsFileTrace g (taking_twice ∷ []) use_a ((k_fact (both (fresh 1) a) ∷ []) ∷ (got_at t a ∷ []) ∷ tr)
+  not_two_sorts t tr is =
+      (shows_none g twins (Twin g) GotBehind twin_holds use_a whole_twin ((k_fact (both (fresh 1) a) ∷ []) ∷ (got_at t a ∷ []) ∷ tr) is).1.0 (refl, (t, refl))
+
+-- ---- let A(x) = in(<y,x>); event E(x,y); in(y); A(y)
+
+-- the adversary knew the first, and later the second
+abbrev Behind : Tree → Tree → Trace → Type 0
+Behind x y [] = ⊥
+Behind x y (fs ∷ tr) = ((fs ≡ k_fact x ∷ []) × Contains tr (k_fact y ∷ [])) ⊎ Behind x y tr
+
+behind_more : (x y : Tree) (tr us : Trace) → Behind x y tr → Behind x y (tr ++ us)
+behind_more x y [] us h = absurd h
+behind_more x y (fs ∷ tr) us (inl (e, c)) = inl (e, Contains-append_left tr us (k_fact y ∷ []) c)
+behind_more x y (fs ∷ tr) us (inr h) = inr (behind_more x y tr us h)
+
+behind_last : (x y : Tree) (tr : Trace) → Contains tr (k_fact x ∷ []) → Behind x y (tr ++ (k_fact y ∷ []) ∷ [])
+behind_last x y [] c = absurd (none_contained c)
+behind_last x y (fs ∷ tr) c = elim (cons_cases fs tr (k_fact x ∷ []) c) [
+  | inl e ↦ inl (e, Contains-append_right tr ((k_fact y ∷ []) ∷ []) (k_fact y ∷ []) (first_item (k_fact y ∷ []) []))
+  | inr k ↦ inr (behind_last x y tr k)
+]
+
+data Taken (g : Sig) : Trace → List ℕ → Written → Type 0 where
+  whole_taken : {tr : Trace} {m : List ℕ} → Taken g tr m use_taken
+  taken_one : {tr : Trace} {m : List ℕ} (s x : Tree) → IsGround s → Contains tr (k_fact x ∷ []) → IsTheoryEqual (equations g) s x → Taken g tr m (using_a s)
+  taken_both : {tr : Trace} {m : List ℕ} (s u x y : Tree) → Behind x y tr → IsTheoryEqual (equations g) s x → IsTheoryEqual (equations g) (both u s) y
+      → Taken g tr m (showing (told_both s u))
+  ended_taken : {tr : Trace} {m : List ℕ} → Taken g tr m nil
+
+taken_more_made : {g : Sig} {tr : Trace} {m n : List ℕ} {w : Written} → Taken g tr m w → Taken g tr n w
+taken_more_made whole_taken = whole_taken
+taken_more_made (taken_one s x i c h) = taken_one s x i c h
+taken_more_made (taken_both s u x y b h k) = taken_both s u x y b h k
+taken_more_made ended_taken = ended_taken
+
+taken_more_shown : {g : Sig} {tr : Trace} {m : List ℕ} {w : Written} (fs : List Fact) → Taken g tr m w → Taken g (tr ++ fs ∷ []) m w
+taken_more_shown fs whole_taken = whole_taken
+taken_more_shown {tr = tr} fs (taken_one s x i c h) = taken_one s x i (Contains-append_left tr (fs ∷ []) (k_fact x ∷ []) c) h
+taken_more_shown {tr = tr} fs (taken_both s u x y b h k) = taken_both s u x y (behind_more x y tr (fs ∷ []) b) h k
+taken_more_shown fs ended_taken = ended_taken
+
+module _ (normal : LeavesAreNormal) (unique : FormIsOne) (kept : EqualityIsKept) (g : Sig) where
+  abbrev takers : List Definition
+  takers = running (taking_other ∷ [])
+
+  -- K('a'), and then K(<'a','b'>)
+  abbrev knows_two : Trace
+  knows_two = (k_fact a ∷ []) ∷ (k_fact (both a b) ∷ []) ∷ []
+
+  abbrev ToldBehind : Trace → List Fact → Type 0
+  ToldBehind tr fs = (tr ≡ knows_two) × ((s : Tree) × (t : Tree) × (fs ≡ told_both s t ∷ []))
+
+  from_two : (x y : Tree) → Behind x y knows_two → (x ≡ a) × (y ≡ both a b)
+  from_two x y (inl (e, c)) = (sym (one_known a x e), sym (one_known (both a b) y (item_cases (k_fact (both a b) ∷ []) (k_fact y ∷ []) c)))
+  from_two x y (inr (inl (e, c))) = absurd (none_contained c)
+  from_two x y (inr (inr h)) = absurd h
+
+  not_taken_so : (s u x y : Tree) → Behind x y knows_two → IsTheoryEqual (equations g) s x → IsTheoryEqual (equations g) (both u s) y → ⊥
+  not_taken_so s u x y shown_two h k =
+      let two = from_two x y shown_two in
+      let is_a : IsTheoryEqual (equations g) s a = subst (IsTheoryEqual (equations g) s) two.0 h in
+      let is_b : IsTheoryEqual (equations g) s b = seconds kept (equations g) u s a b (subst (IsTheoryEqual (equations g) (both u s)) two.1 k) in
+      apart_names normal g unique (kept.onwards (equations g) a s b (kept.back (equations g) s a is_a) is_b)
+
+  abbrev gets_y : Head Written
+  gets_y = head.act (input (of_name (codes "y"))) (using_a (of_name (codes "y")))
+
+  abbrev gets_pair : Tree → Head Written
+  gets_pair s = head.act (input (both (of_name (codes "y")) s)) (showing (told_both s (of_name (codes "y"))))
+
+  behind_pair : (tr : Trace) (m : List ℕ) (s x : Tree) → IsGround s → Contains tr (k_fact x ∷ []) → IsTheoryEqual (equations g) s x
+      → Keeps g takers (Taken g) ToldBehind tr m (gets_pair s)
+  behind_pair tr m s x ground c h σ y fits =
+      let τ : Choice = chosen σ (tree_vars (both (of_name (codes "y")) s)) in
+      let u : Tree = σ (named (codes "y") Msg) in
+      subst (λ t. Taken g (tr ++ (k_fact y ∷ []) ∷ []) m (showing (told_both t u))) (sym (ground_stays τ s ground))
+      (taken_both s u x y (behind_last x y tr c) h (subst (λ t. IsTheoryEqual (equations g) (both u t) y) (ground_stays σ s ground) fits.equal))
+
+  taken_heads : (tr : Trace) (m : List ℕ) (w : Written) (h : Head Written) → Taken g tr m w → StartsWith takers w h → Keeps g takers (Taken g) ToldBehind tr m h
+  taken_heads tr m _ h whole_taken s =
+      subst (Keeps g takers (Taken g) ToldBehind tr m) (sym (form_alone takers h gets_y s))
+      (λ σ x fits. taken_one (σ (named (codes "y") Msg)) x ((fits.messages (named (codes "y") Msg)).ground)
+      (Contains-append_right tr ((k_fact x ∷ []) ∷ []) (k_fact x ∷ []) (first_item (k_fact x ∷ []) [])) fits.equal)
+  taken_heads tr m _ h (taken_one t x i c k) s =
+      subst (Keeps g takers (Taken g) ToldBehind tr m) (sym (form_alone takers h (gets_pair t) (one_use (sorted_definition taking_other) (t ∷ []) h s)))
+      (behind_pair tr m t x i c k)
+  taken_heads tr m _ h (taken_both t u x y i j k) s =
+      subst (Keeps g takers (Taken g) ToldBehind tr m) (sym (form_alone takers h (head.act (event (told_both t u)) nil) s))
+      (λ l f. (λ e. not_taken_so t u x y (subst (Behind x y) e.0 i) j k, ended_taken))
+  taken_heads tr m _ h ended_taken s = subst (Keeps g takers (Taken g) ToldBehind tr m) (sym (form_alone takers h head.nil s)) tt
+
+  taken_holds : Holds g takers (Taken g) ToldBehind
+  taken_holds = record {
+    more_made = λ tr m n w. taken_more_made;
+    more_shown = λ tr m fs w. taken_more_shown fs;
+    heads = taken_heads;
+    known = λ tr t e. no_k (told_both e.1.0 e.1.1) t refl e.1.2;
+  }
+
+  pub not_own_argument : (s t : Tree) (tr : Trace) → ¬ IsFileTrace g (taking_other ∷ []) use_taken ((k_fact a ∷ []) ∷ (k_fact (both a b) ∷ []) ∷ (told_both s t ∷ []) ∷ tr)
+  not_own_argument s t tr is =
+      (shows_none g takers (Taken g) ToldBehind taken_holds use_taken whole_taken ((k_fact a ∷ []) ∷ (k_fact (both a b) ∷ []) ∷ (told_both s t ∷ []) ∷ tr) is).1.1.0
+      (refl, (s, t, refl))

@@ -26,8 +26,12 @@ pub fn files_by_hand_as_written()
     ensures not_of_other { (g : Sig) (tr : Trace) (t : Tree) → IsFileTrace g (naming_z ∷ naming_often ∷ []) use_a tr → ¬ Contains tr (new_at b t ∷ []) }
     ensures one_sort { IsFileTrace pairs_alone (taking_twice ∷ []) use_a
         ((k_fact (both (fresh 1) (fresh 1)) ∷ []) ∷ (got_at (fresh 1) a ∷ []) ∷ []) }
+    ensures not_two_sorts { (g : Sig) (t : Tree) (tr : Trace) → ¬ IsFileTrace g (taking_twice ∷ []) use_a
+        ((k_fact (both (fresh 1) a) ∷ []) ∷ (got_at t a ∷ []) ∷ tr) }
     ensures own_binder { IsFileTrace pairs_alone (taking_other ∷ []) use_taken
         ((k_fact a ∷ []) ∷ (k_fact (both b a) ∷ []) ∷ (told_both a b ∷ []) ∷ []) }
+    ensures not_own_argument { (g : Sig) (s t : Tree) (tr : Trace) → ¬ IsFileTrace g (taking_other ∷ []) use_taken
+        ((k_fact a ∷ []) ∷ (k_fact (both a b) ∷ []) ∷ (told_both s t ∷ []) ∷ tr) }
     ensures apart { (g : Sig) → IsFileTrace g (testing ∷ []) use_testing ((two_apart a b ∷ []) ∷ []) }
     ensures not_swapped { (g : Sig) (tr : Trace) → IsFileTrace g (testing ∷ []) use_testing tr → ¬ Contains tr (two_apart b a ∷ []) }
     ensures plain_name { (g : Sig) → IsFileTrace g (telling_y ∷ []) use_plain ((k_fact a ∷ []) ∷ (told a ∷ []) ∷ []) }

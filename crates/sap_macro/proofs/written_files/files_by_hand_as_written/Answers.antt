@@ -1,5 +1,5 @@
 use Rattle.sap_macro.proofs.WrittenFiles.{apart, each_copy, new_names, one_sort, own_binder, plain_name, store}
-use Rattle.sap_macro.proofs.WrittenLacks.{not_of_other, not_one_name, not_put, not_swapped, not_variable}
+use Rattle.sap_macro.proofs.WrittenLacks.{not_of_other, not_one_name, not_own_argument, not_put, not_swapped, not_two_sorts, not_variable}
 use Rattle.sap_macro.proofs.written_files.files_by_hand_as_written.Goals as goal
 
 pub returns-clause-new_names : goal.returns-clause-new_names
@@ -37,3 +37,9 @@ returns-clause-not_put c = not_put c.leaves_are_normal.ensures c.normal_forms_ar
 
 pub returns-clause-not_variable : goal.returns-clause-not_variable
 returns-clause-not_variable c = not_variable c.normal_forms_are_unique.ensures c.equality_is_kept.ensures
+
+pub returns-clause-not_two_sorts : goal.returns-clause-not_two_sorts
+returns-clause-not_two_sorts c = not_two_sorts c.leaves_are_normal.ensures c.normal_forms_are_unique.ensures c.equality_is_kept.ensures
+
+pub returns-clause-not_own_argument : goal.returns-clause-not_own_argument
+returns-clause-not_own_argument c = not_own_argument c.leaves_are_normal.ensures c.normal_forms_are_unique.ensures c.equality_is_kept.ensures
