@@ -1,10 +1,10 @@
 -- Traces that small files have as they are written.
 use Rattle.std.proofs.Common.{◌≡◌, ℕ, zero, suc, List, [], ◌∷◌, ◌++◌, Option, Some, None, Bool, false, true, slice_get, refl, ap, arith}
-use Rattle.std.specs.Prelude.{codes, Contains, map, slice_index_or}
+use Rattle.std.specs.Prelude.{codes, map, slice_index_or}
 use Rattle.std.specs.Str.{bytes_eq}
 use Rattle.sap_rewrite.specs.Laws.{FormIsOne}
 use Rattle.sap_terms.specs.AdversaryFacts.{k_fact}
-use Rattle.sap_terms.specs.Choice.{Choice, fits_sort}
+use Rattle.sap_terms.specs.Choice.{Choice}
 use Rattle.sap_terms.specs.Deduce.{a_public, a_name, applied}
 use Rattle.sap_terms.specs.Equal.{IsTheoryEqual, same}
 use Rattle.sap_terms.specs.Equations.{Equations, equations, IsDestructor, IsInstance, first, second, symmetric, asymmetric, signing, revealing, revealed, pair_name}
@@ -14,23 +14,22 @@ use Rattle.sap_terms.specs.Modulo.{IsFormOfFact}
 use Rattle.sap_terms.specs.Normal.{IsNormal, IsNormalForm}
 use Rattle.sap_terms.specs.Same.{same_tree}
 use Rattle.sap_terms.specs.Signature.{Sig, pairs_alone}
-use Rattle.sap_terms.specs.Tree.{Tree, public, fresh, apply, Trees, none, more}
-use Rattle.sap_terms.specs.declared.fact.Fact.{Fact}
+use Rattle.sap_terms.specs.Tree.{Tree, public, fresh, apply, none, more}
 use Rattle.sap_terms.specs.declared.var.Sort.{Sort}
 use Rattle.sap_terms.specs.declared.var.Sort.TheVariants.{Msg, Fresh, Pub}
 use Rattle.sap_process.specs.Action.{new, input, event, insert}
 use Rattle.sap_process.specs.Configuration.{ConfigOf, CanGive, initial, stored}
 use Rattle.sap_process.specs.Head as head
 use Rattle.sap_process.specs.Head.{Head}
-use Rattle.sap_process.specs.ProcessSteps.{ProcessStep, ProcessRun, splits, copies, makes_name, inputs, differs, shows, inserts, adversary_makes, starts, further}
+use Rattle.sap_process.specs.ProcessSteps.{ProcessStep, splits, copies, makes_name, inputs, differs, shows, inserts, adversary_makes, starts, further}
 use Rattle.sap_macro.specs.Expansion.{plain_bodies}
 use Rattle.sap_macro.specs.ExpansionExamples.{a, b, of_name, fresh_of, news, taking}
 use Rattle.sap_macro.specs.NameExamples.{both}
 use Rattle.sap_macro.specs.SortedExamples.{using_b}
 use Rattle.sap_macro.specs.UpToNames.{named}
-use Rattle.sap_macro.specs.Written.{Written, nil, call, parallel, replicated, act, test, Definition}
+use Rattle.sap_macro.specs.Written.{Written, nil, call, Definition}
 use Rattle.sap_macro.specs.WrittenExamples.{told, told_both, new_at, got_at, same_one, two_apart, put_at, showing, using_a, using_put, use_a, naming_x, use_named, naming_z, naming_often, taking_twice, taking_other, use_taken, testing, use_testing, telling, telling_y, use_plain, putting, x_name, use_store}
-use Rattle.sap_macro.specs.WrittenRuns.{StartsWith, itself, use_of, written_of, StandsAs, writing, sorted_definition, IsFileTrace}
+use Rattle.sap_macro.specs.WrittenRuns.{StartsWith, itself, use_of, StandsAs, writing, sorted_definition, IsFileTrace}
 use Rattle.sap_terms.proofs.PlainLaws.Items.{first_item, later_item, none_contained, item_cases}
 
 -- a file's definitions as they run

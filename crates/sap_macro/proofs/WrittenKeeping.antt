@@ -1,5 +1,5 @@
 -- What holds of each process that runs, and what no run shows where it holds.
-use Rattle.std.proofs.Common.{◌≡◌, ℕ, zero, suc, List, [], ◌∷◌, ◌++◌, Option, Some, None, slice_get, slice_set, refl, sym, ap, subst, inl, inr}
+use Rattle.std.proofs.Common.{◌≡◌, ℕ, zero, suc, List, [], ◌∷◌, ◌++◌, Option, Some, None, slice_get, slice_set, sym, subst, inl, inr}
 use Rattle.std.specs.Prelude.{Contains}
 use Rattle.std.proofs.lemmas.List.{append_assoc, append-nil}
 use Rattle.sap_terms.specs.AdversaryFacts.{k_fact}
@@ -119,7 +119,7 @@ module _ (g : Sig) (ds : List Definition) (Q : Trace → List ℕ → Written �
         let us = tr ++ (k_fact x ∷ []) ∷ [] in
         let o : Option Written = Some (behind_choice (writing ds) σ (tree_vars n) p) in (
           put us c.made c.threads t o (moved tr us c.made c.made (λ w. holds.more_shown tr c.made (k_fact x ∷ []) w) c.threads all)
-          (behind tr c.made c.threads t (head.act (input n) p) all r σ x j),
+              (behind tr c.made c.threads t (head.act (input n) p) all r σ x j),
           holds.known tr x,
         )
     goes_on (inputs_on {c = c} {m = m} {n = n} {p = p} t σ r i j o) tr all = absurd (behind tr c.made c.threads t (head.act (receive m n) p) all r)

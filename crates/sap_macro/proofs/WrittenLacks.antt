@@ -1,7 +1,6 @@
 -- Traces that small files lack, as they are written.
-use Rattle.std.proofs.Common.{◌≡◌, ℕ, zero, suc, List, [], ◌∷◌, ◌++◌, Some, None, Bool, false, true, refl, sym, ap, subst, ◌∙◌, inl, inr}
+use Rattle.std.proofs.Common.{◌≡◌, ℕ, List, [], ◌∷◌, ◌++◌, false, refl, sym, ap, subst, ◌∙◌, inl, inr}
 use Rattle.std.specs.Prelude.{◌⊎◌, codes, Contains}
-use Rattle.std.specs.List.{AllZip}
 use Rattle.std.specs.Str.{bytes_eq}
 use Rattle.std.proofs.lemmas.List.Elements.{Contains-append_left, Contains-append_right}
 use Rattle.sap_rewrite.specs.Laws.{FormIsOne, EqualityIsKept}
@@ -15,7 +14,7 @@ use Rattle.sap_terms.specs.Modulo.{IsFormOfFact}
 use Rattle.sap_terms.specs.Normal.{IsNormalForm}
 use Rattle.sap_terms.specs.Signature.{Sig}
 use Rattle.sap_terms.specs.Trace.{Trace}
-use Rattle.sap_terms.specs.Tree.{Tree, public, fresh, apply, trees_of}
+use Rattle.sap_terms.specs.Tree.{Tree, fresh, apply, trees_of}
 use Rattle.sap_terms.specs.Variables.{tree_vars}
 use Rattle.sap_terms.specs.declared.fact.Fact.{Fact}
 use Rattle.sap_terms.specs.declared.var.Sort.TheVariants.{Msg, Fresh}

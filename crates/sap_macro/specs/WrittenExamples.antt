@@ -74,7 +74,7 @@ put_at t u = linear (codes "Put") (t ∷ u ∷ [])
 abbrev pub showing : Fact → Written
 showing f = act (event f) nil
 
--- A(t), B(t), and Put(t,u)
+-- A(t), and Put(t,u)
 abbrev pub using_a : Tree → Written
 using_a t = call (codes "A") (t ∷ [])
 

@@ -14,7 +14,7 @@ ghost use Rattle.sap_macro.specs.WrittenRuns.{HasArgumentsInScope, IsFileTrace};
 use sap_rewrite::{equality_is_kept, normal_forms_are_unique};
 use sap_terms::leaves_are_normal;
 
-/// A law: traces that small files have as they are written. A use makes names of its own, and each copy of a replicated use too; an
+/// A law: traces that small files have as they are written, and traces that they lack. A use makes names of its own, and each copy of a replicated use too; an
 /// argument that a use hands on reaches the inner body; the sort of a pattern's first occurrence counts in a body; what a body's
 /// pattern binds isn't the argument of the same name; a test takes its parameters in their order; a name without parameters stands
 /// for its body before anything runs, so it sees what is bound above it; and an insertion has its own arguments.
