@@ -10,7 +10,7 @@ use Rattle.sap_terms.specs.Tree.{Tree, variable, public, fresh, apply, Trees, no
 use Rattle.sap_macro.specs.UpToNames.{named}
 
 mutual
-  ground_stays : (σ : Choice) (t : Tree) → IsGround t → instance σ t ≡ t
+  pub ground_stays : (σ : Choice) (t : Tree) → IsGround t → instance σ t ≡ t
   ground_stays σ (variable v) g = absurd g
   ground_stays σ (public n) g = refl
   ground_stays σ (fresh k) g = refl

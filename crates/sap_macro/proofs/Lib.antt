@@ -38,3 +38,6 @@ pub mod WrittenTraces
 pub mod WrittenHeads
 pub mod DefinedNames
 pub mod WrittenBack
+pub mod WrittenFiles
+pub mod WrittenKeeping
+pub mod WrittenLacks

@@ -34,7 +34,7 @@ undefined_alone ds f n _ ts h (itself _) e = not_a_use h f ts e
 undefined_alone ds f n _ ts h (use_of d {ts = us} c s) e = let same_name : d.name ≡ f = cc in n d c same_name
 
 -- names that a test tells apart are two
-other_name : (x y : List ℕ) → bytes_eq x y ≡ false → bytes_eq y y ≡ true → ¬ (x ≡ y)
+pub other_name : (x y : List ℕ) → bytes_eq x y ≡ false → bytes_eq y y ≡ true → ¬ (x ≡ y)
 other_name x y h k e = true≢false (sym k ∙ sym (ap (λ z. bytes_eq z y) e) ∙ h)
 
 two_in_order : AreInOrder [] told_by_two

@@ -66,6 +66,35 @@ not_a_use (head.act a p) f ts e = cc
 not_a_use (head.test t u p q) f ts e = cc
 not_a_use (head.lookup t x p q) f ts e = cc
 
+-- ---- forms and uses
+
+module _ (ds : List Definition) where
+  starts_as : (w : Written) (h k : Head Written) → StartsWith ds w h → w ≡ written_of k → h ≡ k
+  starts_as _ h k (itself _) e = sym (own_head_is h) ∙ ap own_head e ∙ own_head_is k
+  starts_as _ h k (use_of d {ts = ts} c s) e = absurd (not_a_use k d.name ts (sym e))
+
+  -- a form starts with itself alone
+  pub form_alone : (h k : Head Written) → StartsWith ds (written_of k) h → h ≡ k
+  form_alone h k s = starts_as (written_of k) h k s refl
+
+  -- a definition of the name, whose instance starts with this
+  pub record Defines (f : List ℕ) (ts : List Tree) (h : Head Written) : Type 0 where
+    pub definition : Definition
+    pub there : Contains ds definition
+    pub named : definition.name ≡ f
+    pub starts : StartsWith ds (instance_by definition ts) h
+
+  starts_as_use : (w : Written) (h : Head Written) (f : List ℕ) (ts : List Tree) → StartsWith ds w h → w ≡ call f ts → Defines f ts h
+  starts_as_use _ h f ts (itself _) e = absurd (not_a_use h f ts e)
+  starts_as_use _ h f ts (use_of d {ts = us} c s) e =
+      let same_name : d.name ≡ f = cc in
+      let same_terms : us ≡ ts = cc in
+      record { definition = d; there = c; named = same_name; starts = subst (λ xs. StartsWith ds (instance_by d xs) h) same_terms s }
+
+  -- and a use with what a definition of its name starts with
+  pub use_alone : (h : Head Written) (f : List ℕ) (ts : List Tree) → StartsWith ds (call f ts) h → Defines f ts h
+  use_alone h f ts s = starts_as_use (call f ts) h f ts s refl
+
 module _ (ds : List Definition) (order : AreInOrder [] ds) where
   one_head : (w v : Written) (h k : Head Written) → StartsWith ds w h → StartsWith ds v k → w ≡ v → h ≡ k
   one_head _ _ h k (itself _) (itself _) e = sym (own_head_is h) ∙ ap own_head e ∙ own_head_is k

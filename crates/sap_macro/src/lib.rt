@@ -15,6 +15,7 @@ mod sizes;
 mod sorting_laws;
 mod source;
 mod standing;
+mod written_files;
 mod written_laws;
 
 pub use building::build;
@@ -35,4 +36,5 @@ pub use sorting_laws::{
     sorts_are_exchanged,
 };
 pub use source::{Doing, Source};
+pub use written_files::{arguments_of_files_by_hand, files_by_hand_as_written};
 pub use written_laws::{what_is_written_runs_as_its_expansion, written_heads_are_one};

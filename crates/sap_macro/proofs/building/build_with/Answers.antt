@@ -1,7 +1,6 @@
 use Rattle.std.proofs.Common.{ap, ◌∙◌}
 use Rattle.sap_macro.specs.Expansion.{Expanded}
 use Rattle.sap_macro.specs.Sources.{definitions, written}
-use Rattle.sap_macro.specs.code.Steps.{built}
 use Rattle.sap_macro.proofs.Built.{built_first}
 use Rattle.sap_macro.proofs.building.build_with.Goals as goal
 

@@ -1,0 +1,33 @@
+use Rattle.std.proofs.Common.{refl}
+use Rattle.std.proofs.lemmas.Bool.{false≢true}
+use Rattle.sap_macro.proofs.written_files.arguments_of_files_by_hand.Goals as goal
+
+pub returns-clause-new_names : goal.returns-clause-new_names
+returns-clause-new_names c = (refl, tt)
+
+pub returns-clause-each_copy : goal.returns-clause-each_copy
+returns-clause-each_copy c = tt
+
+pub returns-clause-one_sort : goal.returns-clause-one_sort
+returns-clause-one_sort c = tt
+
+pub returns-clause-own_binder : goal.returns-clause-own_binder
+returns-clause-own_binder c = (refl, tt)
+
+pub returns-clause-apart : goal.returns-clause-apart
+returns-clause-apart c = tt
+
+pub returns-clause-plain_name : goal.returns-clause-plain_name
+returns-clause-plain_name c = tt
+
+pub returns-clause-store : goal.returns-clause-store
+returns-clause-store c = ((refl, tt), tt)
+
+pub returns-clause-not_taken : goal.returns-clause-not_taken
+returns-clause-not_taken c = λ h. false≢true h.0
+
+pub returns-clause-not_unused : goal.returns-clause-not_unused
+returns-clause-not_unused c = λ h. false≢true h.0
+
+pub returns-clause-not_ruled : goal.returns-clause-not_ruled
+returns-clause-not_ruled c = λ h. false≢true h.0
