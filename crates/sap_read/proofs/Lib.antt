@@ -25,7 +25,6 @@ pub mod FewNames
 pub mod HeldVariables
 pub mod OneExpansion
 pub mod WithoutLabels
-pub mod WrittenFiles
 pub mod PlainFiles
 pub mod OccurringMeaning
 pub mod OccurringSorts

@@ -38,7 +38,7 @@ module _ (names : List (List ℕ)) where
   held_bodies [] h = tt
   held_bodies (d ∷ ds) h = ((All-head (HoldsDefinitionVariables names) d ds h).body, held_bodies ds (All-tail (HoldsDefinitionVariables names) d ds h))
 
-  pub bound_taken : (bs : List Body) (p : Written) → HoldsFileVariables names bs → main_of bs ≡ Some p → AreTaken names [] (plain (definitions_of bs) p)
+  bound_taken : (bs : List Body) (p : Written) → HoldsFileVariables names bs → main_of bs ≡ Some p → AreTaken names [] (plain (definitions_of bs) p)
   bound_taken bs p h e =
       let ds = definitions_of bs in
       let whole = plain_names (IsAmong names) Any tt ds p (held_bodies ds h.definitions) (h.process p e) in

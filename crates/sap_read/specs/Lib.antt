@@ -24,7 +24,6 @@ pub mod Causes
 pub mod Files
 pub mod Occurring
 pub mod HeldVariables
-pub mod WrittenFiles
 pub mod PlainFiles
 pub mod Printable
 pub mod OwnNames

@@ -15,7 +15,6 @@ mod parameters;
 mod taken;
 mod terms;
 mod whole;
-mod written_laws;
 
 pub use by_hand::{causes_by_hand, file_processes_by_hand, files_by_hand, identifiers_by_hand};
 pub use fault::ReadFault;
@@ -32,4 +31,3 @@ pub use sap_formula_grammar::one_formula;
 pub use sap_grammar::{one_fact, one_term};
 pub use sap_statements::one_statement;
 pub use terms::{read_fact, read_formula, read_term};
-pub use written_laws::files_run_as_they_are_written;
