@@ -1,8 +1,6 @@
 -- A well-formed process is equal up to names to itself, and to itself without labels.
-use Rattle.std.proofs.Common.{◌≡◌, ℕ, List, [], ◌∷◌, refl, sym, ap, ap₂, ◌∙◌, subst}
+use Rattle.std.proofs.Common.{◌≡◌, ℕ, List, [], refl, sym, ap, ap₂, ◌∙◌, subst}
 use Rattle.sap_terms.specs.Signature.{Sig}
-use Rattle.sap_terms.specs.Tree.{Tree}
-use Rattle.sap_terms.specs.Variables.{is_known}
 use Rattle.sap_terms.specs.declared.var.Var.{Var}
 use Rattle.sap_locks.specs.Annotation.{unlabelled, unlabelled_action}
 use Rattle.sap_process.specs.Action.{Action}

@@ -1,5 +1,4 @@
 use Rattle.std.proofs.Common.{subst, sym}
-use Rattle.sap_terms.specs.Signature.{Sig}
 use Rattle.sap_locks.specs.Annotation.{unlabelled}
 use Rattle.sap_process.specs.Flaws.{IsWellFormed}
 use Rattle.sap_process.specs.Proc.{Proc}
