@@ -45,8 +45,9 @@ use sap_formula::faultless_formulas_are_checked;
 use sap_grammar::{item_laws, same_grammar, words_of_bytes};
 use sap_locks::{annotations_are_ready, annotations_of_processes};
 use sap_macro::{
-    expansions_are_one, new_names_are_least, new_names_are_short, plain_files_stay,
-    plain_uses_have_parameters, same_up_to_names_show_the_same, sizes_are_one,
+    expansions_are_one, new_names_are_least, new_names_are_short, plain_bodies_are_in_order,
+    plain_files_stay, plain_uses_have_parameters, same_up_to_names_show_the_same, sizes_are_one,
+    sorting_keeps_scopes, sorts_are_exchanged, what_is_written_runs_as_its_expansion,
 };
 use sap_process::{one_flaw, some_flaw, sorting_keeps};
 use sap_statements::{
@@ -57,6 +58,7 @@ use sap_terms::builtins_stay_held;
 use sap_text::{one_answer, some_answer};
 use sap_uses::{
     accepted_definitions_are_closed, one_macro_cause, some_macro_cause, unflawed_bodies_are_closed,
+    unflawed_processes_are_closed,
 };
 
 /// What the laws of processes say, as the proofs on files need it.
