@@ -11,6 +11,7 @@ use Rattle.sap_terms.specs.Tree.{Tree, fresh}
 use Rattle.sap_terms.specs.View.{term}
 use Rattle.sap_rewrite.specs.Laws.{FormIsOne}
 use Rattle.sap_process.specs.Configuration.{CanGive, initial}
+use Rattle.sap_process.specs.Head.{trees}
 use Rattle.sap_process.specs.Proc as whole
 use Rattle.sap_process.specs.StepExamples.{a}
 use Rattle.sap_runs.specs.Limits.{HasFewNodes}
@@ -60,7 +61,7 @@ module _ (leaves : LeavesAreNormal) (one : FormIsOne) where
   pub fresh_form : IsNormalForm (equations bare) (fresh 1) (fresh 1)
   fresh_form = record { equal = same; normal = leaves.of_fresh_name (equations bare) 1 }
 
-  not_given : CanGive bare (initial whole.nil) (fresh 1) → ⊥
+  not_given : CanGive bare {k = trees} (initial whole.nil) (fresh 1) → ⊥
   not_given h =
       let d = h.deducible in
       no_fresh d.earlier d.form 1 d.derivation.0 (one (equations bare) (fresh 1) d.form (fresh 1) d.is_form fresh_form)
