@@ -14,9 +14,7 @@ use sap_gen::{
 use sap_intruder::filled_runs_are_legal;
 use sap_outside::{Shelf, Sink};
 use sap_pages::one_page;
-use sap_read::{
-    files_are_printable, files_are_runnable, files_show_as_they_are_written, one_file,
-};
+use sap_read::{files_are_printable, files_are_runnable, files_show_as_they_are_written, one_file};
 use sap_replay::{
     legal_runs_are_not_refused, read_theories_can_run, refused_runs_have_one_cause,
     texts_mean_what_they_say,
