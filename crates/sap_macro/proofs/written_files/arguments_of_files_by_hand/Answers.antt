@@ -31,3 +31,9 @@ returns-clause-not_unused c = λ h. false≢true h.0
 
 pub returns-clause-not_ruled : goal.returns-clause-not_ruled
 returns-clause-not_ruled c = λ h. false≢true h.0
+
+pub returns-clause-plain_body : goal.returns-clause-plain_body
+returns-clause-plain_body c = tt
+
+pub returns-clause-sort_above : goal.returns-clause-sort_above
+returns-clause-sort_above c = (refl, tt)
