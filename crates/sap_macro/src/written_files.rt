@@ -4,10 +4,12 @@ ghost use Rattle.sap_terms.specs.AdversaryFacts.{k_fact};
 ghost use Rattle.sap_terms.specs.Signature.{Sig, pairs_alone};
 ghost use Rattle.sap_terms.specs.Trace.{Trace};
 ghost use Rattle.sap_terms.specs.Tree.{Tree, fresh};
+ghost use Rattle.sap_terms.specs.declared.var.Sort.TheVariants.{Msg};
 ghost use Rattle.sap_macro.specs.Expansion.{plain};
-ghost use Rattle.sap_macro.specs.ExpansionExamples.{a, b, of_name, comparing, using_plain};
+ghost use Rattle.sap_macro.specs.ExpansionExamples.{a, b, of_name, comparing, taking, using_plain};
 ghost use Rattle.sap_macro.specs.NameExamples.{both};
-ghost use Rattle.sap_macro.specs.SortedExamples.{using_b};
+ghost use Rattle.sap_macro.specs.SortedExamples.{finds_x, using_b};
+ghost use Rattle.sap_macro.specs.Written.{nil, parallel, replicated, test};
 ghost use Rattle.sap_macro.specs.WrittenExamples.{telling_x, use_twin, told, told_both, new_at, got_at, same_one, two_apart, put_at, using_a, use_a, naming_x, use_named, naming_z, naming_often, taking_twice, taking_other, use_taken, testing, use_testing, telling_y, use_plain, putting, x_name, use_store, w, public_w, doing_nothing, ruling_x};
 ghost use Rattle.sap_macro.specs.WrittenRuns.{HasArgumentsInScope, IsFileTrace};
 
@@ -52,7 +54,7 @@ pub fn files_by_hand_as_written()
 }
 
 /// A law: in each of these files a use names in its arguments what is in scope there; in a file with an argument that nothing binds it
-/// doesn't, whatever its definition does with it.
+/// doesn't, whatever its definition does with it, and in whatever form the use stands.
 pub fn arguments_of_files_by_hand()
     ensures new_names { HasArgumentsInScope [] (plain (naming_x ∷ []) use_named) }
     ensures each_copy { HasArgumentsInScope [] (plain (naming_z ∷ naming_often ∷ []) use_a) }
@@ -65,5 +67,15 @@ pub fn arguments_of_files_by_hand()
     ensures store { HasArgumentsInScope [] (plain (putting ∷ []) use_store) }
     ensures not_taken { ¬ HasArgumentsInScope [] (plain (comparing ∷ doing_nothing ∷ []) (using_a w)) }
     ensures not_unused { ¬ HasArgumentsInScope [] (plain (comparing ∷ doing_nothing ∷ []) (using_b w)) }
+    ensures each_form { HasArgumentsInScope (codes "w" ∷ [])
+        (replicated (parallel (using_b w) (test a b (using_b w) (finds_x Msg (using_b w) (taking a (using_b w)))))) }
+    ensures not_copied { ¬ HasArgumentsInScope [] (replicated (using_b w)) }
+    ensures not_left { ¬ HasArgumentsInScope [] (parallel (using_b w) nil) }
+    ensures not_right { ¬ HasArgumentsInScope [] (parallel nil (using_b w)) }
+    ensures not_equal { ¬ HasArgumentsInScope [] (test a b (using_b w) nil) }
+    ensures not_apart { ¬ HasArgumentsInScope [] (test a b nil (using_b w)) }
+    ensures not_found { ¬ HasArgumentsInScope [] (finds_x Msg (using_b w) nil) }
+    ensures not_missed { ¬ HasArgumentsInScope [] (finds_x Msg nil (using_b w)) }
+    ensures not_behind { ¬ HasArgumentsInScope [] (taking a (using_b w)) }
     ensures not_ruled { ¬ HasArgumentsInScope [] (plain (ruling_x ∷ []) (using_a public_w)) }
 {}
