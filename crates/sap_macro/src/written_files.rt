@@ -16,11 +16,11 @@ ghost use Rattle.sap_macro.specs.WrittenRuns.{HasArgumentsInScope, IsFileTrace};
 use sap_rewrite::{equality_is_kept, normal_forms_are_unique};
 use sap_terms::leaves_are_normal;
 
-/// A law: traces that small files have as they are written, and traces that they lack. A use makes names of its own, and each copy of a replicated use too; an
-/// argument that a use hands on reaches the inner body; the sort of a pattern's first occurrence counts, in a body and above a use; what
-/// a body's pattern binds isn't the argument of the same name; a test takes its parameters in their order; a name without parameters
-/// stands for its body before anything runs, so it sees what is bound above it, or the parameters of the body in which it stands; and an
-/// insertion has its own arguments.
+/// A law: traces that small files have as they are written, and traces that they lack. A use makes names of its own, and each copy of a
+/// replicated use too; an argument that a use hands on reaches the inner body; the sort of a pattern's first occurrence counts, in a body
+/// and above a use; what a body's pattern binds isn't the argument of the same name; a test takes its parameters in their order; a name
+/// without parameters stands for its body before anything runs, so it sees what is bound above it, or the parameters of the body in which
+/// it stands; and an insertion has its own arguments.
 pub fn files_by_hand_as_written()
     ensures new_names { (g : Sig) → IsFileTrace g (naming_x ∷ []) use_named ((told_both (fresh 0) (fresh 1) ∷ []) ∷ []) }
     ensures not_one_name { (g : Sig) (tr : Trace) (t : Tree) → IsFileTrace g (naming_x ∷ []) use_named tr → ¬ Contains tr (told_both t t ∷ []) }
