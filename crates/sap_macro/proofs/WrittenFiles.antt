@@ -23,12 +23,12 @@ use Rattle.sap_process.specs.Head as head
 use Rattle.sap_process.specs.Head.{Head}
 use Rattle.sap_process.specs.ProcessSteps.{ProcessStep, splits, copies, makes_name, inputs, differs, shows, inserts, adversary_makes, starts, further}
 use Rattle.sap_macro.specs.Expansion.{plain_bodies}
-use Rattle.sap_macro.specs.ExpansionExamples.{a, b, of_name, fresh_of, news, taking}
+use Rattle.sap_macro.specs.ExpansionExamples.{using_plain, a, b, of_name, fresh_of, news, taking}
 use Rattle.sap_macro.specs.NameExamples.{both}
 use Rattle.sap_macro.specs.SortedExamples.{using_b}
 use Rattle.sap_macro.specs.UpToNames.{named}
 use Rattle.sap_macro.specs.Written.{Written, nil, call, Definition}
-use Rattle.sap_macro.specs.WrittenExamples.{told, told_both, new_at, got_at, same_one, two_apart, put_at, showing, using_a, using_put, use_a, naming_x, use_named, naming_z, naming_often, taking_twice, taking_other, use_taken, testing, use_testing, telling, telling_y, use_plain, putting, x_name, use_store}
+use Rattle.sap_macro.specs.WrittenExamples.{telling_x, use_twin, told, told_both, new_at, got_at, same_one, two_apart, put_at, showing, using_a, using_put, use_a, naming_x, use_named, naming_z, naming_often, taking_twice, taking_other, use_taken, testing, use_testing, telling, telling_y, use_plain, putting, x_name, use_store}
 use Rattle.sap_macro.specs.WrittenRuns.{StartsWith, itself, use_of, StandsAs, writing, sorted_definition, IsFileTrace}
 use Rattle.sap_terms.proofs.PlainLaws.Items.{first_item, later_item, none_contained, item_cases}
 
@@ -209,6 +209,24 @@ module _ (normal : LeavesAreNormal) (g : Sig) where
   pub plain_name : IsFileTrace g (telling_y ∷ []) use_plain ((k_fact a ∷ []) ∷ (told a ∷ []) ∷ [])
   plain_name = (initial nil, further (further starts gets_y) tells_y)
 
+  -- ---- let C = event E(y); let A(y) = C; A('a')
+
+  abbrev plain_below : List Definition
+  plain_below = running (telling_y ∷ using_plain ∷ [])
+
+  -- let A(y) = event E(y)
+  abbrev told_y : Definition
+  told_y = record using_plain { body = telling (of_name (codes "y")) }
+
+  tells_below : ProcessStep g {kind = writing plain_below} (initial use_a) (told a ∷ []) (initial nil)
+  tells_below =
+      shows 0 (stood 0 use_a (head.act (event (told a)) nil) refl
+      (use_of told_y (later_item telling_y (told_y ∷ []) told_y (first_item told_y [])) (itself (head.act (event (told a)) nil))))
+      (record { name = refl; persistent = refl; args = (public_form normal g (codes "a"), tt) })
+
+  pub plain_body : IsFileTrace g (telling_y ∷ using_plain ∷ []) use_a ((told a ∷ []) ∷ [])
+  plain_body = (initial nil, further starts tells_below)
+
   -- ---- let Put(key,value) = insert key, value; event Put(key,value); (new ~k; Put('a',~k)) | Put('b','x')
 
   abbrev puts : List Definition
@@ -309,14 +327,17 @@ module _ (normal : LeavesAreNormal) where
   abbrev takes_twice : List Definition
   takes_twice = running (taking_twice ∷ [])
 
+  abbrev owned : {ds : List Definition} → List ℕ → Written → ConfigOf (writing ds)
+  owned ns p = record (initial p) { own = ns }
+
   abbrev owning : List ℕ → Written → ConfigOf (writing takes_twice)
-  owning ns p = record (initial p) { own = ns }
+  owning ns p = owned ns p
 
   own_name : ProcessStep pairs_alone (owning [] use_a) [] (owning (1 ∷ []) use_a)
   own_name = adversary_makes 1 (none_contained, none_contained)
 
-  gives_twice : CanGive pairs_alone (owning (1 ∷ []) use_a) (both (fresh 1) (fresh 1))
-  gives_twice =
+  gives_twice : {ds : List Definition} (p : Written) → CanGive pairs_alone {k = writing ds} (owned (1 ∷ []) p) (both (fresh 1) (fresh 1))
+  gives_twice p =
       let form = pair_form (fresh 1) (fresh 1) (normal.of_fresh_name pairs 1) (normal.of_fresh_name pairs 1) in
       record {
         deducible = record {
@@ -337,7 +358,7 @@ module _ (normal : LeavesAreNormal) where
       (stood 0 use_a (head.act (input (both (fresh_of (codes "x")) (fresh_of (codes "x")))) (showing (got_at (fresh_of (codes "x")) a))) refl
       (use_of (sorted_definition taking_twice) (first_item (sorted_definition taking_twice) [])
       (itself (head.act (input (both (fresh_of (codes "x")) (fresh_of (codes "x")))) (showing (got_at (fresh_of (codes "x")) a))))))
-      gives_twice (record { messages = choosing_messages normal pairs_alone (codes "a") 1; equal = same })
+      (gives_twice use_a) (record { messages = choosing_messages normal pairs_alone (codes "a") 1; equal = same })
 
   tells_got : ProcessStep pairs_alone (owning (1 ∷ []) (showing (got_at (fresh 1) a))) (got_at (fresh 1) a ∷ []) (owning (1 ∷ []) nil)
   tells_got =
@@ -390,3 +411,31 @@ module _ (normal : LeavesAreNormal) where
 
   pub own_binder : IsFileTrace pairs_alone (taking_other ∷ []) use_taken ((k_fact a ∷ []) ∷ (k_fact (both b a) ∷ []) ∷ (told_both a b ∷ []) ∷ [])
   own_binder = (initial nil, further (further (further starts takes_y) gets_other) tells_other)
+
+  -- ---- let A(x) = event E(x); in(<~x,x>); A(x)
+
+  abbrev tells_x : List Definition
+  tells_x = running (telling_x ∷ [])
+
+  -- in(<~x,~x>); A(~x)
+  abbrev twin_sorted : Written
+  twin_sorted = taking (both (fresh_of (codes "x")) (fresh_of (codes "x"))) (using_a (fresh_of (codes "x")))
+
+  own_before : ProcessStep pairs_alone {kind = writing tells_x} (initial twin_sorted) [] (owned (1 ∷ []) twin_sorted)
+  own_before = adversary_makes 1 (none_contained, none_contained)
+
+  gets_before : ProcessStep pairs_alone {kind = writing tells_x} (owned (1 ∷ []) twin_sorted) (k_fact (both (fresh 1) (fresh 1)) ∷ []) (owned (1 ∷ []) (using_a (fresh 1)))
+  gets_before =
+      inputs 0 (choosing a 1)
+      (stood 0 twin_sorted (head.act (input (both (fresh_of (codes "x")) (fresh_of (codes "x")))) (using_a (fresh_of (codes "x")))) refl
+      (itself (head.act (input (both (fresh_of (codes "x")) (fresh_of (codes "x")))) (using_a (fresh_of (codes "x"))))))
+      (gives_twice twin_sorted) (record { messages = choosing_messages normal pairs_alone (codes "a") 1; equal = same })
+
+  tells_fresh : ProcessStep pairs_alone {kind = writing tells_x} (owned (1 ∷ []) (using_a (fresh 1))) (told (fresh 1) ∷ []) (owned (1 ∷ []) nil)
+  tells_fresh =
+      shows 0 (stood 0 (using_a (fresh 1)) (head.act (event (told (fresh 1))) nil) refl
+      (use_of (sorted_definition telling_x) (first_item (sorted_definition telling_x) []) (itself (head.act (event (told (fresh 1))) nil))))
+      (record { name = refl; persistent = refl; args = (fresh_form normal pairs_alone 1, tt) })
+
+  pub sort_above : IsFileTrace pairs_alone (telling_x ∷ []) use_twin ((k_fact (both (fresh 1) (fresh 1)) ∷ []) ∷ (told (fresh 1) ∷ []) ∷ [])
+  sort_above = (owned (1 ∷ []) nil, further (further (further starts own_before) gets_before) tells_fresh)

@@ -22,13 +22,13 @@ use Rattle.sap_process.specs.Action.{new, input, event, insert}
 use Rattle.sap_process.specs.Head as head
 use Rattle.sap_process.specs.Head.{Head}
 use Rattle.sap_process.specs.ProcessSteps.{chosen}
-use Rattle.sap_macro.specs.ExpansionExamples.{a, b, of_name, fresh_of, news, taking}
+use Rattle.sap_macro.specs.ExpansionExamples.{using_plain, a, b, of_name, fresh_of, news, taking}
 use Rattle.sap_macro.specs.Instances.{instance_by}
 use Rattle.sap_macro.specs.NameExamples.{both}
 use Rattle.sap_macro.specs.SortedExamples.{using_b}
 use Rattle.sap_macro.specs.UpToNames.{named}
 use Rattle.sap_macro.specs.Written.{Written, nil, call, Definition}
-use Rattle.sap_macro.specs.WrittenExamples.{told, told_both, new_at, got_at, taking_twice, taking_other, use_taken, same_one, two_apart, put_at, showing, telling, using_a, using_put, use_a, naming_x, use_named, naming_z, naming_often, testing, use_testing, telling_y, use_plain, putting, x_name, use_store}
+use Rattle.sap_macro.specs.WrittenExamples.{telling_x, use_twin, told, told_both, new_at, got_at, taking_twice, taking_other, use_taken, same_one, two_apart, put_at, showing, telling, using_a, using_put, use_a, naming_x, use_named, naming_z, naming_often, testing, use_testing, telling_y, use_plain, putting, x_name, use_store}
 use Rattle.sap_macro.specs.WrittenRuns.{StartsWith, sorted_definition, IsFileTrace}
 use Rattle.sap_macro.proofs.WrittenByHand.{other_name}
 use Rattle.sap_macro.proofs.WrittenHeads.{form_alone, use_alone}
@@ -523,3 +523,98 @@ module _ (normal : LeavesAreNormal) (unique : FormIsOne) (kept : EqualityIsKept)
   not_own_argument s t tr is =
       (shows_none g takers (Taken g) ToldBehind taken_holds use_taken whole_taken ((k_fact a ∷ []) ∷ (k_fact (both a b) ∷ []) ∷ (told_both s t ∷ []) ∷ tr) is).1.1.0
       (refl, (s, t, refl))
+
+-- ---- let C = event E(y); let A(y) = C; A('a')
+
+data Below : Trace → List ℕ → Written → Type 0 where
+  whole_below : {tr : Trace} {m : List ℕ} → Below tr m use_a
+  ended_below : {tr : Trace} {m : List ℕ} → Below tr m nil
+
+stays_below : {tr us : Trace} {m n : List ℕ} {w : Written} → Below tr m w → Below us n w
+stays_below whole_below = whole_below
+stays_below ended_below = ended_below
+
+module _ (normal : LeavesAreNormal) (unique : FormIsOne) (kept : EqualityIsKept) (g : Sig) where
+  abbrev belows : List Definition
+  belows = running (telling_y ∷ using_plain ∷ [])
+
+  -- let A(y) = event E(y)
+  abbrev told_y : Definition
+  told_y = record using_plain { body = telling (of_name (codes "y")) }
+
+  abbrev tells_a : Head Written
+  tells_a = head.act (event (told a)) nil
+
+  below_starts : (h : Head Written) → StartsWith belows use_a h → h ≡ tells_a
+  below_starts h s =
+      let u = use_alone belows h (codes "A") (a ∷ []) s in
+      one_of_two (λ d. d.name ≡ codes "A" → StartsWith belows (instance_by d (a ∷ [])) h → h ≡ tells_a) telling_y told_y u.definition u.there
+      (λ e r. absurd (other_name (codes "C") (codes "A") refl refl e)) (λ e r. form_alone belows h tells_a r) u.named u.starts
+
+  below_heads : (tr : Trace) (m : List ℕ) (w : Written) (h : Head Written) → Below tr m w → StartsWith belows w h → Keeps g belows Below (ToldVariable unique kept g) tr m h
+  below_heads tr m _ h whole_below s =
+      subst (Keeps g belows Below (ToldVariable unique kept g) tr m) (sym (below_starts h s))
+      (λ k f. (λ e. form_is_ground unique kept (equations g) a (of_name (codes "y")) tt (form_of_told unique kept g a (of_name (codes "y")) k f e), ended_below))
+  below_heads tr m _ h ended_below s = subst (Keeps g belows Below (ToldVariable unique kept g) tr m) (sym (form_alone belows h head.nil s)) tt
+
+  below_holds : Holds g belows Below (ToldVariable unique kept g)
+  below_holds = record {
+    more_made = λ tr m n w. stays_below;
+    more_shown = λ tr m fs w. stays_below;
+    heads = below_heads;
+    known = λ tr t e. no_k (told (of_name (codes "y"))) t refl e;
+  }
+
+  pub not_open : (tr : Trace) → IsFileTrace g (telling_y ∷ using_plain ∷ []) use_a tr → ¬ Contains tr (told (of_name (codes "y")) ∷ [])
+  not_open tr is m =
+      let clean = shows_none g belows Below (ToldVariable unique kept g) below_holds use_a whole_below tr is in
+      (is_not_shown g belows Below (ToldVariable unique kept g) [] tr (told (of_name (codes "y")) ∷ []) clean m).1 refl
+
+-- ---- let A(x) = event E(x); in(<~x,x>); A(x)
+
+data Sorted (g : Sig) : Trace → List ℕ → Written → Type 0 where
+  whole_sorted : {tr : Trace} {m : List ℕ} → Sorted g tr m (taking (both (fresh_of (codes "x")) (fresh_of (codes "x"))) (using_a (fresh_of (codes "x"))))
+  used_sorted : {tr : Trace} {m : List ℕ} (s x : Tree) → Contains tr (k_fact x ∷ []) → IsTheoryEqual (equations g) (both s s) x → Sorted g tr m (using_a s)
+  ended_sorted : {tr : Trace} {m : List ℕ} → Sorted g tr m nil
+
+sorted_more_made : {g : Sig} {tr : Trace} {m n : List ℕ} {w : Written} → Sorted g tr m w → Sorted g tr n w
+sorted_more_made whole_sorted = whole_sorted
+sorted_more_made (used_sorted s x c h) = used_sorted s x c h
+sorted_more_made ended_sorted = ended_sorted
+
+sorted_more_shown : {g : Sig} {tr : Trace} {m : List ℕ} {w : Written} (fs : List Fact) → Sorted g tr m w → Sorted g (tr ++ fs ∷ []) m w
+sorted_more_shown fs whole_sorted = whole_sorted
+sorted_more_shown {tr = tr} fs (used_sorted s x c h) = used_sorted s x (Contains-append_left tr (fs ∷ []) (k_fact x ∷ []) c) h
+sorted_more_shown fs ended_sorted = ended_sorted
+
+module _ (normal : LeavesAreNormal) (unique : FormIsOne) (kept : EqualityIsKept) (g : Sig) where
+  abbrev tellers : List Definition
+  tellers = running (telling_x ∷ [])
+
+  abbrev ToldOther : Trace → List Fact → Type 0
+  ToldOther tr fs = (tr ≡ (k_fact (both (fresh 1) a) ∷ []) ∷ []) × ((t : Tree) × (fs ≡ told t ∷ []))
+
+  abbrev gets_sorted : Head Written
+  gets_sorted = head.act (input (both (fresh_of (codes "x")) (fresh_of (codes "x")))) (using_a (fresh_of (codes "x")))
+
+  sorted_heads : (tr : Trace) (m : List ℕ) (w : Written) (h : Head Written) → Sorted g tr m w → StartsWith tellers w h → Keeps g tellers (Sorted g) ToldOther tr m h
+  sorted_heads tr m _ h whole_sorted s =
+      subst (Keeps g tellers (Sorted g) ToldOther tr m) (sym (form_alone tellers h gets_sorted s))
+      (λ σ x fits. used_sorted (σ (named (codes "x") Fresh)) x (Contains-append_right tr ((k_fact x ∷ []) ∷ []) (k_fact x ∷ []) (first_item (k_fact x ∷ []) [])) fits.equal)
+  sorted_heads tr m _ h (used_sorted t x c i) s =
+      subst (Keeps g tellers (Sorted g) ToldOther tr m) (sym (form_alone tellers h (head.act (event (told t)) nil) (one_use (sorted_definition telling_x) (t ∷ []) h s)))
+      (λ k f. (λ e. no_twin normal unique kept g t x (subst (λ us. Contains us (k_fact x ∷ [])) e.0 c) i, ended_sorted))
+  sorted_heads tr m _ h ended_sorted s = subst (Keeps g tellers (Sorted g) ToldOther tr m) (sym (form_alone tellers h head.nil s)) tt
+
+  sorted_holds : Holds g tellers (Sorted g) ToldOther
+  sorted_holds = record {
+    more_made = λ tr m n w. sorted_more_made;
+    more_shown = λ tr m fs w. sorted_more_shown fs;
+    heads = sorted_heads;
+    known = λ tr t e. no_k (told e.1.0) t refl e.1.1;
+  }
+
+  pub not_other_sort : (t : Tree) (tr : Trace) → ¬ IsFileTrace g (telling_x ∷ []) use_twin ((k_fact (both (fresh 1) a) ∷ []) ∷ (told t ∷ []) ∷ tr)
+  not_other_sort t tr is =
+      (shows_none g tellers (Sorted g) ToldOther sorted_holds (taking (both (fresh_of (codes "x")) (fresh_of (codes "x"))) (using_a (fresh_of (codes "x")))) whole_sorted
+      ((k_fact (both (fresh 1) a) ∷ []) ∷ (told t ∷ []) ∷ tr) is).1.0 (refl, (t, refl))

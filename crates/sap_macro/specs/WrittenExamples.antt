@@ -153,6 +153,11 @@ putting = record {
       (showing (put_at (of_name (codes "key")) (of_name (codes "value"))));
 }
 
+-- in(<~x,x>); A(x)
+abbrev pub use_twin : Written
+use_twin =
+    taking (both (fresh_of (codes "x")) (of_name (codes "x"))) (using_a (of_name (codes "x")))
+
 -- 'x'
 abbrev pub x_name : Tree
 x_name = public (codes "x")

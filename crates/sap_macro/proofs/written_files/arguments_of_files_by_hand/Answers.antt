@@ -31,3 +31,36 @@ returns-clause-not_unused c = λ h. false≢true h.0
 
 pub returns-clause-not_ruled : goal.returns-clause-not_ruled
 returns-clause-not_ruled c = λ h. false≢true h.0
+
+pub returns-clause-plain_body : goal.returns-clause-plain_body
+returns-clause-plain_body c = tt
+
+pub returns-clause-sort_above : goal.returns-clause-sort_above
+returns-clause-sort_above c = (refl, tt)
+
+pub returns-clause-each_form : goal.returns-clause-each_form
+returns-clause-each_form c = ((refl, tt), ((refl, tt), ((refl, tt), (refl, tt))))
+
+pub returns-clause-not_copied : goal.returns-clause-not_copied
+returns-clause-not_copied c = λ h. false≢true h.0
+
+pub returns-clause-not_left : goal.returns-clause-not_left
+returns-clause-not_left c = λ h. false≢true h.0.0
+
+pub returns-clause-not_right : goal.returns-clause-not_right
+returns-clause-not_right c = λ h. false≢true h.1.0
+
+pub returns-clause-not_equal : goal.returns-clause-not_equal
+returns-clause-not_equal c = λ h. false≢true h.0.0
+
+pub returns-clause-not_apart : goal.returns-clause-not_apart
+returns-clause-not_apart c = λ h. false≢true h.1.0
+
+pub returns-clause-not_found : goal.returns-clause-not_found
+returns-clause-not_found c = λ h. false≢true h.0.0
+
+pub returns-clause-not_missed : goal.returns-clause-not_missed
+returns-clause-not_missed c = λ h. false≢true h.1.0
+
+pub returns-clause-not_behind : goal.returns-clause-not_behind
+returns-clause-not_behind c = λ h. false≢true h.0

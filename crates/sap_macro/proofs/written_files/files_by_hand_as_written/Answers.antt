@@ -1,5 +1,5 @@
-use Rattle.sap_macro.proofs.WrittenFiles.{apart, each_copy, new_names, one_sort, own_binder, plain_name, store}
-use Rattle.sap_macro.proofs.WrittenLacks.{not_of_other, not_one_name, not_own_argument, not_put, not_swapped, not_two_sorts, not_variable}
+use Rattle.sap_macro.proofs.WrittenFiles.{apart, each_copy, new_names, one_sort, own_binder, plain_body, plain_name, sort_above, store}
+use Rattle.sap_macro.proofs.WrittenLacks.{not_of_other, not_one_name, not_open, not_other_sort, not_own_argument, not_put, not_swapped, not_two_sorts, not_variable}
 use Rattle.sap_macro.proofs.written_files.files_by_hand_as_written.Goals as goal
 
 pub returns-clause-new_names : goal.returns-clause-new_names
@@ -43,3 +43,15 @@ returns-clause-not_two_sorts c = not_two_sorts c.leaves_are_normal.ensures c.nor
 
 pub returns-clause-not_own_argument : goal.returns-clause-not_own_argument
 returns-clause-not_own_argument c = not_own_argument c.leaves_are_normal.ensures c.normal_forms_are_unique.ensures c.equality_is_kept.ensures
+
+pub returns-clause-plain_body : goal.returns-clause-plain_body
+returns-clause-plain_body c = plain_body c.leaves_are_normal.ensures
+
+pub returns-clause-sort_above : goal.returns-clause-sort_above
+returns-clause-sort_above c = sort_above c.leaves_are_normal.ensures
+
+pub returns-clause-not_open : goal.returns-clause-not_open
+returns-clause-not_open c = not_open c.leaves_are_normal.ensures c.normal_forms_are_unique.ensures c.equality_is_kept.ensures
+
+pub returns-clause-not_other_sort : goal.returns-clause-not_other_sort
+returns-clause-not_other_sort c = not_other_sort c.leaves_are_normal.ensures c.normal_forms_are_unique.ensures c.equality_is_kept.ensures
