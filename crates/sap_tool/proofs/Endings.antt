@@ -1,5 +1,5 @@
 -- From what was read to how the call ends.
-use Rattle.std.proofs.Common.{◌≡◌, ◌≢◌, ◌≤◌, ◌+◌, ℕ, List, [], ◌∷◌, ◌++◌, length, Option, None, Some, Result, Ok, Err, inl, inr, sym, ap, subst, ◌∙◌, refl}
+use Rattle.std.proofs.Common.{◌≡◌, ◌≢◌, ◌≤◌, ◌+◌, ℕ, List, [], ◌∷◌, ◌++◌, length, Option, None, Some, Result, Ok, Err, inl, inr, sym, ap, subst, ◌∙◌, refl, arith}
 use Rattle.std.specs.Prelude.{IfOk, IsErrOf, IsSomeAnd, IfSome, MatchOption}
 use Rattle.sap_read.specs.Files.{FileContent}
 use Rattle.sap_rule.specs.declared.theory.Theory.{Theory}
