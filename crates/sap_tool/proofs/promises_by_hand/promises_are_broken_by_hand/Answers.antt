@@ -53,19 +53,19 @@ IsNumber n k = n ≡ k
 pub returns-clause-other_file_cause : goal.returns-clause-other_file_cause
 returns-clause-other_file_cause c = λ held is p. at (p.must_refuse (compile Plain (codes "f")) [] (codes "no theory header") refl is headerless) where
   at : (IsNumber 1 1 × (Gained (got (codes "file refused: no process\n") 1) 1 (codes "file refused: no theory header\n"))) ⊎ (IsNumber 1 4 × (1 ≤ 0)) ⊎ (IsNumber 1 5 × (1 ≤ 0)) ⊎ IsNumber 1 6 → ⊥
-  at (inl told) = differ (codes "file refused: no process\n") (codes "file refused: no theory header\n") told.1.0 refl refl
-  at (inr (inl unread)) = omega (arith, unread.0)
-  at (inr (inr (inl unwritten))) = omega (arith, unwritten.0)
-  at (inr (inr (inr wanting))) = omega (arith, wanting)
+  at (inl h) = differ (codes "file refused: no process\n") (codes "file refused: no theory header\n") h.1.0 refl refl
+  at (inr (inl h)) = omega (arith, h.0)
+  at (inr (inr (inl h))) = omega (arith, h.0)
+  at (inr (inr (inr h))) = omega (arith, h)
 
 -- and so is a run
 pub returns-clause-other_cause : goal.returns-clause-other_cause
 returns-clause-other_cause c = λ held is p. at (p.must_refuse_run (to_json (codes "r")) (run_alone (codes "x")) (codes "wrong head") refl (refl, is) headless) where
   at : (IsNumber 2 2 × (Gained (got (codes "run refused: line 1 is not a step\n") 1) 1 (codes "run refused: wrong head\n"))) ⊎ (IsNumber 2 4 × (⊥ ⊎ (1 ≤ 0))) ⊎ (IsNumber 2 5 × (1 ≤ 0)) ⊎ IsNumber 2 6 → ⊥
-  at (inl told) = differ (codes "run refused: line 1 is not a step\n") (codes "run refused: wrong head\n") told.1.0 refl refl
-  at (inr (inl unread)) = omega (arith, unread.0)
-  at (inr (inr (inl unwritten))) = omega (arith, unwritten.0)
-  at (inr (inr (inr wanting))) = omega (arith, wanting)
+  at (inl h) = differ (codes "run refused: line 1 is not a step\n") (codes "run refused: wrong head\n") h.1.0 refl refl
+  at (inr (inl h)) = omega (arith, h.0)
+  at (inr (inr (inl h))) = omega (arith, h.0)
+  at (inr (inr (inr h))) = omega (arith, h)
 
 some_out : codes "sapic" ≡ [] → ⊥
 some_out e = cc (e)
