@@ -1,4 +1,7 @@
 pub mod FirstWrong
 pub mod FileTable
+pub mod AnyLevels
+pub mod Letters
+pub mod ItemsUpTo
 pub mod ItemExamples
 pub mod code

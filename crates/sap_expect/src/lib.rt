@@ -1,6 +1,7 @@
 //! What may stand next in a file, and which word is the first that may not, by a table of a file's words.
 #![tactic(auto)]
 
+mod converse_laws;
 mod deep;
 mod frame;
 mod laws;
@@ -9,6 +10,10 @@ mod walk;
 mod wanted;
 mod words;
 
+pub use converse_laws::{
+    facts_that_follow_are_spelled, files_that_follow_are_spelled, formulas_that_follow_are_spelled,
+    processes_that_follow_are_spelled, terms_that_follow_are_spelled,
+};
 pub use deep::too_deep;
 pub use laws::{files_follow_the_table, items_by_hand, table_goes_on};
 pub use walk::first_wrong;
