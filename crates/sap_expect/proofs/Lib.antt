@@ -21,7 +21,6 @@ pub mod TermRows
 pub mod ProcessRows
 pub mod FormulaRows
 pub mod ItemRows
-pub mod Spelled
 pub mod SpelledProcesses
 pub mod SpelledFormulas
 pub mod SpelledItems

@@ -1,9 +1,11 @@
--- Facts and processes that follow the table are spelled by the grammar, within some limits.
+-- Terms, facts and processes that follow the table are spelled by the grammar, within some limits.
 use Rattle.std.proofs.Common.{◌≡◌, ℕ, true, false, List, [], ◌∷◌, None, refl, arith}
 use Rattle.std.specs.Prelude.{codes}
 use Rattle.sap_terms.specs.declared.fact.Fact.{Fact}
 use Rattle.sap_terms.specs.Signature.{Sig}
 use Rattle.sap_grammar.specs.Words.{Word, mark}
+use Rattle.sap_terms.specs.Tree.{Tree}
+use Rattle.sap_grammar.specs.TermGrammar.{IsArgs, IsTerm}
 use Rattle.sap_grammar.specs.FactGrammar.{AreFacts, IsFact}
 use Rattle.sap_macro.specs.Written.{Written}
 use Rattle.sap_draft.specs.ProcessGrammar.{Ending, IsPar, IsSeq}
@@ -16,7 +18,10 @@ use Rattle.sap_expect.proofs.MeantFacts.{Fits}
 use Rattle.sap_expect.proofs.MeantProcesses.{in_parentheses, process_of}
 use Rattle.sap_expect.proofs.TermRows.{application_other, application_row, more_parts_row, more_terms_row, term_row, terms_other, terms_row}
 use Rattle.sap_expect.proofs.ProcessRows.{arguments_other, arguments_row, arrow_row, bars_row, else_other, else_row, fact_row, facts_other, facts_row, message_row, more_facts_row, more_shown_row, new_row, of_processes, sequence_row, shown_row, then_other, then_row}
-use Rattle.sap_expect.proofs.Spelled.{Free}
+
+-- of a word nothing is asked
+abbrev Free : Word → Type 0
+Free w = Unit {0}
 
 pub fits_itself : (n : ℕ) → Fits n (levels n)
 fits_itself n = record { levels = omega arith; nodes = refl }
@@ -70,6 +75,16 @@ module _ (g : Sig) where
 
   parts : (vs : List Wanted) (ws : List Word) → Reads vs ws → Parted (of_processes g) vs ws
   parts vs ws r = parted (of_processes g) Free (λ p w a b l h. process_rows p w a b h) (λ p w a b l e h. process_others p w a b e h) r (each_free ws)
+
+  pub term_spelled : (vs : List Wanted) (ws : List Word) → Reads (part Term ∷ vs) ws → (t : Tree) × (b : List Word) × IsTerm g t ws b × Reads vs b
+  term_spelled vs ws r =
+      let h = parts (part Term ∷ vs) ws r in
+      (h.1.1.0, h.1.0, h.1.1.1, reads_of (of_processes g) vs h.1.0 h.1.2)
+
+  pub args_spelled : (vs : List Wanted) (ws : List Word) → Reads (part Terms ∷ vs) ws → (ts : List Tree) × (b : List Word) × IsArgs g ts ws b × Reads vs b
+  args_spelled vs ws r =
+      let h = parts (part Terms ∷ vs) ws r in
+      (h.1.1.0, h.1.0, h.1.1.1, reads_of (of_processes g) vs h.1.0 h.1.2)
 
   pub fact_spelled : (vs : List Wanted) (ws : List Word) → Reads (part AFact ∷ vs) ws → (f : Fact) × (b : List Word) × IsFact g f ws b × Reads vs b
   fact_spelled vs ws r =
