@@ -25,3 +25,5 @@ pub mod SpelledProcesses
 pub mod SpelledFormulas
 pub mod SpelledItems
 pub mod LetteredTokens
+pub mod LevelsSound
+pub mod LevelsTaken

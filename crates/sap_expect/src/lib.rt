@@ -5,6 +5,7 @@ mod converse_laws;
 mod deep;
 mod frame;
 mod laws;
+mod level_laws;
 mod table;
 mod walk;
 mod wanted;
@@ -16,4 +17,5 @@ pub use converse_laws::{
 };
 pub use deep::too_deep;
 pub use laws::{files_follow_the_table, items_by_hand, table_goes_on};
+pub use level_laws::taken_words_are_terms;
 pub use walk::first_wrong;
