@@ -27,3 +27,4 @@ pub mod SpelledItems
 pub mod LetteredTokens
 pub mod LevelsSound
 pub mod LevelsTaken
+pub mod LevelsOn

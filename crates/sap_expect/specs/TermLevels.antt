@@ -85,3 +85,12 @@ pub data Accepts : State → List Word → Type 0 where
 -- where a term of at most so many levels is to begin
 abbrev pub start : ℕ → State
 start m = wanted m []
+
+-- what is behind these words, where all are taken
+abbrev pub on : Option State → (State → Option State) → Option State
+on None go = None
+on (Some s) go = go s
+
+abbrev pub after : State → List Word → Option State
+after s [] = Some s
+after s (w ∷ ws) = on (turn_among (turns s) w) (λ t. after t ws)

@@ -17,5 +17,5 @@ pub use converse_laws::{
 };
 pub use deep::too_deep;
 pub use laws::{files_follow_the_table, items_by_hand, table_goes_on};
-pub use level_laws::taken_words_are_terms;
+pub use level_laws::{taken_words_are_terms, taken_words_go_on};
 pub use walk::first_wrong;
