@@ -28,3 +28,4 @@ pub mod LetteredTokens
 pub mod LevelsSound
 pub mod LevelsTaken
 pub mod LevelsOn
+pub mod Begins

@@ -1,5 +1,5 @@
 //! Laws of the table: what follows it is spelled by the grammar, whatever its levels.
-ghost use Rattle.std.specs.Prelude.{◌≡◌, ℕ, true, false, codes, List, [], ◌∷◌};
+ghost use Rattle.std.specs.Prelude.{◌≡◌, ◌<◌, ◌+◌, ◌++◌, ℕ, true, false, codes, List, [], ◌∷◌, length, take};
 ghost use Rattle.sap_text.specs.declared.token.Token.{Token};
 ghost use Rattle.sap_text.specs.Spans.{AreTokens};
 ghost use Rattle.sap_terms.specs.declared.fact.Fact.{Fact};
@@ -16,6 +16,7 @@ ghost use Rattle.sap_read.specs.Item.{Item};
 ghost use Rattle.sap_expect.specs.declared.wanted.Part.TheVariants.{Fact as AFact, Facts, Formula, InnerBars, InnerFormula, Items, Sequence, Shown, Term, Terms};
 ghost use Rattle.sap_expect.specs.AnyLevels.{levels};
 ghost use Rattle.sap_expect.specs.FileTable.{FollowsTable, Reads, Wanted, part};
+ghost use Rattle.sap_expect.specs.FirstWrong.{IsFirstWrong};
 ghost use Rattle.sap_expect.specs.ItemsUpTo.{AreItemsUpTo};
 ghost use Rattle.sap_expect.specs.Letters.{AreLettered};
 
@@ -70,3 +71,14 @@ pub fn files_that_follow_are_spelled()
 {
     spans_are_tokens();
 }
+
+/// A law: the words before the first that is wrong by the table go on to a file whose processes and formulas may have any levels, and
+/// with that word they go on to none.
+pub fn first_wrong_is_the_first_with_no_file()
+    ensures go_on { (g : Sig) (ws : List Word) (k : ℕ) → AreLettered ws → IsFirstWrong FollowsTable ws k
+        → (rest : List Word) × (x : List ℕ) × (is : List Item) × (a : List Word)
+        × (take k ws ++ rest ≡ mark (codes "theory") ∷ name x ∷ mark (codes "begin") ∷ a) × AreItemsUpTo g is a [] }
+    ensures go_on_not { (g : Sig) (ws : List Word) (k : ℕ) → IsFirstWrong FollowsTable ws k → k < length ws
+        → (rest : List Word) (x : List ℕ) (is : List Item) (a : List Word)
+        → take (k + 1) ws ++ rest ≡ mark (codes "theory") ∷ name x ∷ mark (codes "begin") ∷ a → AreItemsUpTo g is a [] → ⊥ }
+{}

@@ -12,7 +12,7 @@ mod wanted;
 mod words;
 
 pub use converse_laws::{
-    facts_that_follow_are_spelled, files_that_follow_are_spelled, formulas_that_follow_are_spelled,
+    facts_that_follow_are_spelled, files_that_follow_are_spelled, first_wrong_is_the_first_with_no_file, formulas_that_follow_are_spelled,
     processes_that_follow_are_spelled, terms_that_follow_are_spelled,
 };
 pub use deep::too_deep;
