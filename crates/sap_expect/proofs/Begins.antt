@@ -10,7 +10,7 @@ use Rattle.sap_expect.specs.declared.wanted.Part.TheVariants.{File, Items, Built
 use Rattle.sap_expect.specs.FileTable.{FollowsTable, Reads, Row, Takes, Wanted, any_name, arity, capital, in_quotes, is_wanted, nil, otherwise, part, reads_end, reads_word, row_among, rows, sign, small, takes_other, takes_row, takes_word, word}
 use Rattle.sap_expect.specs.FirstWrong.{IsFirstWrong}
 use Rattle.sap_expect.specs.ItemsUpTo.{AreItemsUpTo}
-use Rattle.sap_expect.specs.Letters.{AreLettered, IsLettered}
+use Rattle.sap_expect.specs.Letters.{AreLettered}
 use Rattle.sap_expect.proofs.Completed.{ended}
 use Rattle.sap_expect.proofs.Endings as endings
 use Rattle.sap_expect.proofs.Endings.{a_capital, a_zero, an_empty, ending}
@@ -253,12 +253,11 @@ one_more capital vs e c = (a_capital ∷ c.0, reads_word (takes_word refl) c.1, 
 one_more in_quotes vs e c = (an_empty ∷ c.0, reads_word (takes_word refl) c.1, (tt, c.2))
 one_more nil vs e c = (a_zero ∷ c.0, reads_word (takes_word refl) c.1, (tt, c.2))
 one_more arity vs e c = (a_zero ∷ c.0, reads_word (takes_word refl) c.1, (tt, c.2))
-one_more (part p) vs e c =
-    (
-      ending p ++ c.0,
-      (reach_goes (part p ∷ vs) (ending p) vs (ended p vs)).on c.0 c.1,
-      lettered_append (ending p) c.0 (are_lettered (ending p) (endings_lettered p)) c.2,
-    )
+one_more (part p) vs e c = (
+  ending p ++ c.0,
+  (reach_goes (part p ∷ vs) (ending p) vs (ended p vs)).on c.0 c.1,
+  lettered_append (ending p) c.0 (are_lettered (ending p) (endings_lettered p)) c.2,
+)
 
 -- whatever is wanted, some such words are it
 lettered : (vs : List Wanted) → want_letters vs ≡ true → Lettered vs

@@ -2,11 +2,11 @@
 use Rattle.std.proofs.Common.{◌≡◌, ◌≤◌, ◌+◌, ◌-◌, max, ℕ, zero, suc, Bool, true, false, List, [], ◌∷◌, Option, Some, None, ◌⊎◌, inl, inr, arith, refl, sym, subst}
 use Rattle.std.specs.Prelude.{codes, nat_le, if◌then◌else◌}
 use Rattle.sap_terms.specs.Signature.{Sig, arity_of}
-use Rattle.sap_terms.specs.Tree.{Tree, apply, level_count, none, trees_levels, trees_of}
+use Rattle.sap_terms.specs.Tree.{Tree, apply, level_count, trees_levels, trees_of}
 use Rattle.sap_grammar.proofs.ReadingLaws.Limits.{le_of}
 use Rattle.sap_grammar.specs.Words.{Word, name}
 use Rattle.sap_grammar.specs.TermGrammar.{IsArgs, IsConstant, IsList, IsRest, IsTerm, args_none, args_some, list_last, list_more, pair, rest_last, rest_more, term_constant, term_fresh, term_message, term_pub, term_quoted, term_symbol, term_tuple}
-use Rattle.sap_expect.specs.FileTable.{is_wanted, sign}
+use Rattle.sap_expect.specs.FileTable.{is_wanted}
 use Rattle.sap_expect.specs.TermLevels.{Accepts, Open, State, Turn, accepts_end, accepts_word, comma_turns, ended, ended_turns, first, is_end, named, opened, rest, start, symbol, term_turns, tuple_turns, turn_among, turns, variable, wanted}
 use Rattle.sap_expect.proofs.Meant as meant
 use Rattle.sap_expect.proofs.Meant.{Is, IsAny, IsFirst, IsSign, is_any, is_of, is_quoted, is_sign, is_small}
@@ -147,3 +147,8 @@ pub term_is : (g : Sig) (m : ℕ) (ws : List Word) → Accepts (start m) ws → 
 term_is g m ws h =
     let q = accepted_means g h in
     (q.0, subst (λ (b : List Word). IsTerm g q.0 ws b) q.4 q.2, q.3)
+
+pub args_are : (g : Sig) (m : ℕ) (ws : List Word) → Accepts (opened m []) ws → (ts : List Tree) × IsArgs g ts ws [] × (trees_levels (trees_of ts) ≤ m)
+args_are g m ws h =
+    let q = accepted_means g h in
+    (q.0, subst (λ (b : List Word). IsArgs g q.0 ws b) q.4 q.2, q.3)

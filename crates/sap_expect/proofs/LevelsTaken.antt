@@ -1,13 +1,13 @@
 -- A term of no more levels is taken with them.
-use Rattle.std.proofs.Common.{◌≡◌, ◌≤◌, ◌+◌, ◌-◌, max, ℕ, zero, suc, Bool, true, false, List, [], ◌∷◌, Option, Some, None, arith, refl, sym, ◌∙◌, subst}
+use Rattle.std.proofs.Common.{◌≡◌, ◌≤◌, ◌+◌, ◌-◌, max, ℕ, zero, suc, Bool, true, false, List, [], ◌∷◌, Some, None, arith, refl, sym, ◌∙◌, subst}
 use Rattle.std.specs.Prelude.{codes, nat_le, if◌then◌else◌}
 use Rattle.sap_terms.specs.Signature.{Sig}
 use Rattle.sap_terms.specs.Tree.{Tree, apply, fresh, level_count, public, trees_levels, trees_of, variable as a_variable}
 use Rattle.sap_grammar.proofs.ReadingLaws.Limits.{fits}
-use Rattle.sap_grammar.specs.Words.{Word, is_lower, mark, name, quoted}
+use Rattle.sap_grammar.specs.Words.{Word, is_lower, mark, name}
 use Rattle.sap_grammar.specs.TermGrammar.{IsArgs, IsList, IsRest, IsTerm, args_none, args_some, list_last, list_more, rest_last, rest_more, term_constant, term_fresh, term_message, term_pub, term_quoted, term_symbol, term_tuple}
 use Rattle.sap_expect.specs.FileTable.{is_wanted, sign}
-use Rattle.sap_expect.specs.TermLevels.{Accepts, Open, State, Turn, accepts_end, accepts_word, comma_turns, ended, ended_turns, first, is_end, named, opened, rest, start, symbol, term_turns, tuple_turns, turn_among, turns, variable, wanted}
+use Rattle.sap_expect.specs.TermLevels.{Accepts, Open, State, Turn, accepts_end, accepts_word, comma_turns, ended, ended_turns, first, is_end, named, opened, rest, start, symbol, term_turns, turn_among, turns, wanted}
 use Rattle.sap_expect.proofs.Meant.{IsSign, is_of, is_sign}
 
 abbrev depth : List Tree → ℕ
@@ -142,3 +142,6 @@ mutual
 
 pub term_accepted : (g : Sig) (m : ℕ) (ws : List Word) (t : Tree) → IsTerm g t ws [] → level_count t ≤ m → Accepts (start m) ws
 term_accepted g m ws t s le = term_taken s m [] le (accepts_end refl)
+
+pub args_accepted : (g : Sig) (m : ℕ) (ws : List Word) (ts : List Tree) → IsArgs g ts ws [] → depth ts ≤ m → Accepts (opened m []) ws
+args_accepted g m ws ts s le = args_taken s m [] le (accepts_end refl)

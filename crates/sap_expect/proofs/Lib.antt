@@ -29,3 +29,4 @@ pub mod LevelsSound
 pub mod LevelsTaken
 pub mod LevelsOn
 pub mod Begins
+pub mod LevelsByHand

@@ -4,5 +4,6 @@ pub mod AnyLevels
 pub mod Letters
 pub mod ItemsUpTo
 pub mod TermLevels
+pub mod LevelExamples
 pub mod ItemExamples
 pub mod code
