@@ -145,20 +145,20 @@ module _ (r : List Word) (n : NextItem r) where
   item_follows (item_process q) h = on_row refl (on_word refl (process_follows r q.spelled behind (bars h)))
   item_follows (item_statement q) h = statement_follows q h
 
-words-append : (ps qs : List Placed) → words (ps ++ qs) ≡ words ps ++ words qs
+pub words-append : (ps qs : List Placed) → words (ps ++ qs) ≡ words ps ++ words qs
 words-append [] qs = refl
 words-append (p ∷ ps) qs = ap (λ (x : List Word). p.word ∷ x) (words-append ps qs)
 
-no_items : {g : Sig} {cut : List (List Placed)} {is : List Standing} → AreItems g cut is → ◌≡◌ {A = List (List Placed)} cut [] → ⊥
+pub no_items : {g : Sig} {cut : List (List Placed)} {is : List Standing} → AreItems g cut is → ◌≡◌ {A = List (List Placed)} cut [] → ⊥
 no_items (items_end e) same = absurd (cc)
 no_items (items_more s q) same = absurd (cc)
 
 -- items stand behind an item, so the words begin with one
-next_words : {g : Sig} {ps : List Placed} {cut : List (List Placed)} {is : List Standing} → StartsItem ps → IsCut ps cut → AreItems g cut is → NextItem (words ps)
+pub next_words : {g : Sig} {ps : List Placed} {cut : List (List Placed)} {is : List Standing} → StartsItem ps → IsCut ps cut → AreItems g cut is → NextItem (words ps)
 next_words {ps = []} s cut_none h = absurd (no_items h refl)
 next_words {ps = p ∷ ps} s c h = next_of p.word (words ps) s
 
-cut_nothing : {ps : List Placed} {cut : List (List Placed)} → IsCut ps cut → ◌≡◌ {A = List (List Placed)} cut [] → ps ≡ []
+pub cut_nothing : {ps : List Placed} {cut : List (List Placed)} → IsCut ps cut → ◌≡◌ {A = List (List Placed)} cut [] → ps ≡ []
 cut_nothing cut_none e = refl
 cut_nothing (cut_one p ps rest never s c) e = absurd (cc)
 

@@ -30,3 +30,4 @@ pub mod LevelsTaken
 pub mod LevelsOn
 pub mod Begins
 pub mod LevelsByHand
+pub mod UpTo

@@ -1,5 +1,5 @@
 -- Which words spell an item, whatever its levels: the words from its first on, the words behind its last.
-use Rattle.std.specs.Prelude.{ℕ, codes, List, [], ◌∷◌, ◌++◌}
+use Rattle.std.specs.Prelude.{ℕ, codes, List, [], ◌∷◌, ◌++◌, map}
 use Rattle.sap_terms.specs.declared.signature.Symbol.{Symbol}
 use Rattle.sap_terms.specs.declared.signature.Builtin.{Builtin}
 use Rattle.sap_terms.specs.Signature.{Sig}
@@ -12,7 +12,7 @@ use Rattle.sap_macro.specs.Written.{Written}
 use Rattle.sap_draft.specs.ProcessGrammar.{IsPar}
 use Rattle.sap_statements.specs.declared.statement.Statement.TheVariants.{Lemma as lemma, Restriction as restriction}
 use Rattle.sap_statements.specs.Statements.{HasAttributes, IsMode}
-use Rattle.sap_read.specs.Item.{Item, builtins, definition, functions, process, statement}
+use Rattle.sap_read.specs.Item.{Item, Standing, builtins, definition, functions, process, statement}
 use Rattle.sap_read.specs.ItemGrammar.{HasParameters}
 use Rattle.sap_expect.specs.AnyLevels.{levels}
 
@@ -42,3 +42,7 @@ pub data AreItemsUpTo (g : Sig) : List Item → List Word → List Word → Type
   end_up_to : {a : List Word} → AreItemsUpTo g [] (mark (codes "end") ∷ a) a
   more_up_to : {i : Item} {is : List Item} {a b c : List Word} → IsItemUpTo g i a b
       → AreItemsUpTo g is b c → AreItemsUpTo g (i ∷ is) a c
+
+-- items without their lines
+abbrev pub items_of : List Standing → List Item
+items_of is = map (λ (i : Standing). i.item) is

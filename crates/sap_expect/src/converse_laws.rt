@@ -7,17 +7,20 @@ ghost use Rattle.sap_terms.specs.Signature.{Sig};
 ghost use Rattle.sap_terms.specs.Tree.{Tree};
 ghost use Rattle.sap_formula.specs.Form.{Form};
 ghost use Rattle.sap_formula_grammar.specs.FormulaGrammar.{IsShortFormula};
+ghost use Rattle.sap_formula_grammar.specs.FormulaGrammar.{begins_truth};
+ghost use Rattle.sap_grammar.specs.Cut.{IsCut, Placed, words};
 ghost use Rattle.sap_grammar.specs.FactGrammar.{AreFacts, IsFact};
 ghost use Rattle.sap_grammar.specs.TermGrammar.{IsArgs, IsTerm};
-ghost use Rattle.sap_grammar.specs.Words.{Word, mark, name, words_of};
+ghost use Rattle.sap_grammar.specs.Words.{Word, mark, name, starts, words_of};
 ghost use Rattle.sap_macro.specs.Written.{Written};
 ghost use Rattle.sap_draft.specs.ProcessGrammar.{Ending, IsPar, IsSeq};
-ghost use Rattle.sap_read.specs.Item.{Item};
+ghost use Rattle.sap_read.specs.Item.{Item, Standing};
+ghost use Rattle.sap_read.specs.ItemGrammar.{AreItems, IsItem};
 ghost use Rattle.sap_expect.specs.declared.wanted.Part.TheVariants.{Fact as AFact, Facts, Formula, InnerBars, InnerFormula, Items, Sequence, Shown, Term, Terms};
 ghost use Rattle.sap_expect.specs.AnyLevels.{levels};
 ghost use Rattle.sap_expect.specs.FileTable.{FollowsTable, Reads, Wanted, part};
 ghost use Rattle.sap_expect.specs.FirstWrong.{IsFirstWrong};
-ghost use Rattle.sap_expect.specs.ItemsUpTo.{AreItemsUpTo};
+ghost use Rattle.sap_expect.specs.ItemsUpTo.{AreItemsUpTo, IsItemUpTo, items_of};
 ghost use Rattle.sap_expect.specs.Letters.{AreLettered};
 
 use sap_text::spans_are_tokens;
@@ -71,6 +74,15 @@ pub fn files_that_follow_are_spelled()
 {
     spans_are_tokens();
 }
+
+/// A law: an item of the grammar is one whose levels aren't looked at, where what is behind it doesn't go on with it; so are all that a
+/// file is cut into.
+pub fn items_have_any_levels()
+    ensures item { (g : Sig) (i : Item) (ws rest : List Word) → starts (codes "(") rest ≡ false → begins_truth rest ≡ false
+        → IsItem g i ws → IsItemUpTo g i (ws ++ rest) rest }
+    ensures items { (g : Sig) (ps : List Placed) (cut : List (List Placed)) (is : List Standing) → IsCut ps cut → AreItems g cut is
+        → AreItemsUpTo g (items_of is) (words ps) [] }
+{}
 
 /// A law: the words before the first that is wrong by the table go on to a file whose processes and formulas may have any levels, and
 /// with that word they go on to none.
