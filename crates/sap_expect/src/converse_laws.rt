@@ -71,6 +71,7 @@ pub fn files_that_follow_are_spelled()
         × (words_of z ts ≡ mark (codes "theory") ∷ name x ∷ mark (codes "begin") ∷ a) × AreItemsUpTo g is a [] }
     ensures follows { (g : Sig) (x : List ℕ) (is : List Item) (a : List Word) → AreItemsUpTo g is a []
         → FollowsTable (mark (codes "theory") ∷ name x ∷ mark (codes "begin") ∷ a) }
+    ensures letters { (z : List ℕ) (ts : List Token) → AreTokens z ts → AreLettered (words_of z ts) }
 {
     spans_are_tokens();
 }

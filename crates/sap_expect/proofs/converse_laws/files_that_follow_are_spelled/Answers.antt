@@ -9,4 +9,5 @@ returns c = record {
   items = items_spelled;
   file = λ g z ts tokens r. file_spelled g (words_of z ts) (words_lettered z ts (λ k t e. c.spans_are_tokens.ensures z ts k t tokens e)) r;
   follows = file_up;
+  letters = λ z ts tokens. words_lettered z ts (λ k t e. c.spans_are_tokens.ensures z ts k t tokens e);
 }
