@@ -31,3 +31,4 @@ pub mod LevelsOn
 pub mod Begins
 pub mod LevelsByHand
 pub mod UpTo
+pub mod NoLetter

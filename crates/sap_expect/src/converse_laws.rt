@@ -10,6 +10,7 @@ ghost use Rattle.sap_formula_grammar.specs.FormulaGrammar.{IsShortFormula};
 ghost use Rattle.sap_formula_grammar.specs.FormulaGrammar.{begins_truth};
 ghost use Rattle.sap_grammar.specs.Cut.{IsCut, Placed, words};
 ghost use Rattle.sap_grammar.specs.FactGrammar.{AreFacts, IsFact};
+ghost use Rattle.sap_grammar.specs.declared.limits.Limits.{Limits};
 ghost use Rattle.sap_grammar.specs.TermGrammar.{IsArgs, IsTerm};
 ghost use Rattle.sap_grammar.specs.Words.{Word, mark, name, starts, words_of};
 ghost use Rattle.sap_macro.specs.Written.{Written};
@@ -20,6 +21,7 @@ ghost use Rattle.sap_expect.specs.declared.wanted.Part.TheVariants.{Fact as AFac
 ghost use Rattle.sap_expect.specs.AnyLevels.{levels};
 ghost use Rattle.sap_expect.specs.FileTable.{FollowsTable, Reads, Wanted, part};
 ghost use Rattle.sap_expect.specs.FirstWrong.{IsFirstWrong};
+ghost use Rattle.sap_expect.specs.ItemExamples.{letterless};
 ghost use Rattle.sap_expect.specs.ItemsUpTo.{AreItemsUpTo, IsItemUpTo, items_of};
 ghost use Rattle.sap_expect.specs.Letters.{AreLettered};
 
@@ -59,6 +61,13 @@ pub fn formulas_that_follow_are_spelled()
         → (n : ℕ) × (f : Form) × (b : List Word) × IsShortFormula g (levels n) f ws (mark (codes "\"") ∷ b) × Reads vs b }
     ensures in_parentheses { (g : Sig) (vs : List Wanted) (ws : List Word) → AreLettered ws → Reads (part InnerFormula ∷ vs) ws
         → (n : ℕ) × (f : Form) × (b : List Word) × IsShortFormula g (levels n) f ws (mark (codes ")") ∷ b) × Reads vs b }
+{}
+
+/// A law: what it is for that names begin with letters: by the table words may be a formula's, with its quotation mark, and the grammar
+/// has none that begins so, where a name that begins with no letter stands before parentheses.
+pub fn names_without_letters()
+    ensures follows { Reads (part Formula ∷ []) letterless }
+    ensures spelled_not { (g : Sig) (m : Limits) (f : Form) (b : List Word) → IsShortFormula g m f letterless b → ⊥ }
 {}
 
 /// A law: so of items with their `end`, and of a file's tokens: where their words follow the table, they are a header and items, whose

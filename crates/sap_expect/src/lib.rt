@@ -14,7 +14,7 @@ mod words;
 pub use converse_laws::{
     facts_that_follow_are_spelled, files_that_follow_are_spelled,
     first_wrong_is_the_first_with_no_file, formulas_that_follow_are_spelled, items_have_any_levels,
-    processes_that_follow_are_spelled, terms_that_follow_are_spelled,
+    names_without_letters, processes_that_follow_are_spelled, terms_that_follow_are_spelled,
 };
 pub use deep::too_deep;
 pub use laws::{files_follow_the_table, items_by_hand, table_goes_on};
