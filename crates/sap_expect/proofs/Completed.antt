@@ -11,7 +11,7 @@ use Rattle.sap_expect.proofs.Endings as endings
 use Rattle.sap_expect.proofs.Endings.{a_capital, a_zero, an_empty, ending}
 use Rattle.sap_expect.proofs.Reaching.{reach, reach_goes}
 
-ended : (p : Part) (vs : List Wanted) → reach (part p ∷ vs) (ending p) ≡ Some vs
+pub ended : (p : Part) (vs : List Wanted) → reach (part p ∷ vs) (ending p) ≡ Some vs
 ended File vs = refl
 ended Items vs = refl
 ended Builtin vs = refl

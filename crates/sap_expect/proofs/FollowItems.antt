@@ -60,7 +60,7 @@ parts_of m e =
     one_of m (codes "builtins") (record { no_terms = refl; no_then = refl; no_else = refl; no_bars = refl; no_builtin = refl; no_privacy = refl; no_function = refl }) (one_of m (codes "functions") (record { no_terms = refl; no_then = refl; no_else = refl; no_bars = refl; no_builtin = refl; no_privacy = refl; no_function = refl }) (one_of m (codes "let") (record { no_terms = refl; no_then = refl; no_else = refl; no_bars = refl; no_builtin = refl; no_privacy = refl; no_function = refl }) (one_of m (codes "process") (record { no_terms = refl; no_then = refl; no_else = refl; no_bars = refl; no_builtin = refl; no_privacy = refl; no_function = refl })
     (one_of m (codes "restriction") (record { no_terms = refl; no_then = refl; no_else = refl; no_bars = refl; no_builtin = refl; no_privacy = refl; no_function = refl }) (one_of m (codes "lemma") (record { no_terms = refl; no_then = refl; no_else = refl; no_bars = refl; no_builtin = refl; no_privacy = refl; no_function = refl }) (one_of m (codes "rule") (record { no_terms = refl; no_then = refl; no_else = refl; no_bars = refl; no_builtin = refl; no_privacy = refl; no_function = refl }) (one_of m (codes "end") (record { no_terms = refl; no_then = refl; no_else = refl; no_bars = refl; no_builtin = refl; no_privacy = refl; no_function = refl }) (none_left m)))))))) e
 
-next_of : (w : Word) (ws : List Word) → is_item_word w ≡ true → NextItem (w ∷ ws)
+pub next_of : (w : Word) (ws : List Word) → is_item_word w ≡ true → NextItem (w ∷ ws)
 next_of (mark m) ws e = next_item (parts_of m e)
 next_of (name x) ws e = absurd (cc)
 next_of (number x) ws e = absurd (cc)
@@ -86,7 +86,7 @@ module _ (r : List Word) (n : NextItem r) where
   builtin_follows spells_signing h = on_row refl h
   builtin_follows spells_revealing h = on_row refl (on_word refl (on_word refl h))
 
-  builtins_follow : {bs : List Builtin} {a : List Word} → AreBuiltins bs a → Reads (part Items ∷ []) r → Reads (part ABuiltin ∷ part MoreBuiltins ∷ []) (a ++ r)
+  pub builtins_follow : {bs : List Builtin} {a : List Word} → AreBuiltins bs a → Reads (part Items ∷ []) r → Reads (part ABuiltin ∷ part MoreBuiltins ∷ []) (a ++ r)
   builtins_follow (builtins_last s) h = builtin_follows s (instead r refl (free MoreBuiltins (λ w p. p.no_builtin)) h)
   builtins_follow (builtins_more s q) h = builtin_follows s (on_row refl (builtins_follow q h))
 
@@ -94,15 +94,15 @@ module _ (r : List Word) (n : NextItem r) where
   symbol_follows (spells_public {f = f} {n = n} {a = a} low few) o h = on_nth Function 0 refl low (on_word refl (on_word (few_of n few) (instead (a ++ r) refl o h)))
   symbol_follows (spells_private {f = f} {n = n} low few) o h = on_nth Function 0 refl low (on_word refl (on_word (few_of n few) (on_row refl (on_word refl (on_word refl h)))))
 
-  symbols_follow : {ss : List Symbol} {a : List Word} → AreSymbols ss a → Reads (part Items ∷ []) r → Reads (part Function ∷ []) (a ++ r)
+  pub symbols_follow : {ss : List Symbol} {a : List Word} → AreSymbols ss a → Reads (part Items ∷ []) r → Reads (part Function ∷ []) (a ++ r)
   symbols_follow (symbols_last s) h = symbol_follows s (free Privacy (λ w p. p.no_privacy)) (instead r refl (free MoreFunctions (λ w p. p.no_function)) h)
   symbols_follow (symbols_more s q) h = symbol_follows s refl (on_row refl (symbols_follow q h))
 
-  behind : (e : Ending) → Behind e r
+  pub behind : (e : Ending) → Behind e r
   behind closed = record { no_parenthesis = free Application (λ w p. p.no_terms); no_semicolon = free Then (λ w p. p.no_then); no_else = tt }
   behind dangling = record { no_parenthesis = free Application (λ w p. p.no_terms); no_semicolon = free Then (λ w p. p.no_then); no_else = free Else (λ w p. p.no_else) }
 
-  bars : Reads (part Items ∷ []) r → Reads (part Bars ∷ []) r
+  pub bars : Reads (part Items ∷ []) r → Reads (part Bars ∷ []) r
   bars h = instead r refl (free Bars (λ w p. p.no_bars)) h
 
   attribute_follows : {x : List ℕ} {vs : List Wanted} {ws : List Word} → IsAttribute x → Reads vs ws → Reads (part Attribute ∷ vs) (name x ∷ ws)
@@ -145,20 +145,20 @@ module _ (r : List Word) (n : NextItem r) where
   item_follows (item_process q) h = on_row refl (on_word refl (process_follows r q.spelled behind (bars h)))
   item_follows (item_statement q) h = statement_follows q h
 
-words-append : (ps qs : List Placed) → words (ps ++ qs) ≡ words ps ++ words qs
+pub words-append : (ps qs : List Placed) → words (ps ++ qs) ≡ words ps ++ words qs
 words-append [] qs = refl
 words-append (p ∷ ps) qs = ap (λ (x : List Word). p.word ∷ x) (words-append ps qs)
 
-no_items : {g : Sig} {cut : List (List Placed)} {is : List Standing} → AreItems g cut is → ◌≡◌ {A = List (List Placed)} cut [] → ⊥
+pub no_items : {g : Sig} {cut : List (List Placed)} {is : List Standing} → AreItems g cut is → ◌≡◌ {A = List (List Placed)} cut [] → ⊥
 no_items (items_end e) same = absurd (cc)
 no_items (items_more s q) same = absurd (cc)
 
 -- items stand behind an item, so the words begin with one
-next_words : {g : Sig} {ps : List Placed} {cut : List (List Placed)} {is : List Standing} → StartsItem ps → IsCut ps cut → AreItems g cut is → NextItem (words ps)
+pub next_words : {g : Sig} {ps : List Placed} {cut : List (List Placed)} {is : List Standing} → StartsItem ps → IsCut ps cut → AreItems g cut is → NextItem (words ps)
 next_words {ps = []} s cut_none h = absurd (no_items h refl)
 next_words {ps = p ∷ ps} s c h = next_of p.word (words ps) s
 
-cut_nothing : {ps : List Placed} {cut : List (List Placed)} → IsCut ps cut → ◌≡◌ {A = List (List Placed)} cut [] → ps ≡ []
+pub cut_nothing : {ps : List Placed} {cut : List (List Placed)} → IsCut ps cut → ◌≡◌ {A = List (List Placed)} cut [] → ps ≡ []
 cut_nothing cut_none e = refl
 cut_nothing (cut_one p ps rest never s c) e = absurd (cc)
 

@@ -17,7 +17,7 @@ abbrev pub NoRow : Part → List Word → Type 0
 NoRow p [] = ⊥
 NoRow p (w ∷ ws) = row p w ≡ None
 
-taken_first : {us : List Wanted} {w : Word} {ws : List Word} → Reads us (w ∷ ws) → (next : List Wanted) × Takes us w next × Reads next ws
+pub taken_first : {us : List Wanted} {w : Word} {ws : List Word} → Reads us (w ∷ ws) → (next : List Wanted) × Takes us w next × Reads next ws
 taken_first (reads_word {next = n} t r) = (n, t, r)
 
 pub instead : {p : Part} {other vs : List Wanted} (ws : List Word) → otherwise p ≡ Some other → NoRow p ws → Reads (other ++ vs) ws → Reads (part p ∷ vs) ws
