@@ -1,0 +1,6 @@
+pub mod Least
+pub mod FirstNodes
+pub mod HeadMembers
+pub mod Decisions
+pub mod ClashNodes
+pub mod FlawsAtNodes

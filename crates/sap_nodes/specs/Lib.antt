@@ -1,0 +1,2 @@
+pub mod HeadNodes
+pub mod FlawNodes
