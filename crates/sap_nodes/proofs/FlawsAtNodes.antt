@@ -103,7 +103,7 @@ reserved_fact : (s : Site) → HasReservedFact s → Has IsReservedFactNode (hea
 reserved_fact s h = fact_has IsReservedFactNode s.body h.fact h.stands (λ a. h.reserved)
 
 -- what a filter leaves was there, and so were first occurrences
-filtered : {X : Type 0} (p : X → Bool) (xs : List X) (x : X) → Contains (filter p xs) x → Contains xs x
+pub filtered : {X : Type 0} (p : X → Bool) (xs : List X) (x : X) → Contains (filter p xs) x → Contains xs x
 filtered p [] x c = c
 filtered {X} p (y ∷ ys) x c = by (p y) c (filtered p ys x) where
   by : (b : Bool) → Contains (cond b (y ∷ filter p ys) (filter p ys)) x → (Contains (filter p ys) x → Contains ys x) → Contains (y ∷ ys) x

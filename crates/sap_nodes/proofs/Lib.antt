@@ -4,3 +4,5 @@ pub mod HeadMembers
 pub mod Decisions
 pub mod ClashNodes
 pub mod FlawsAtNodes
+pub mod NodesByHand
+pub mod SearchLemmas

@@ -1,8 +1,10 @@
 //! Of which node of a head a flaw speaks.
 #![tactic(auto)]
 
+mod finding;
 mod laws;
 mod part;
 
-pub use laws::nodes_of_flaws;
+pub use finding::word_node;
+pub use laws::{nodes_by_hand, nodes_of_flaws};
 pub use part::Part;
