@@ -6,3 +6,5 @@ pub mod ClashNodes
 pub mod FlawsAtNodes
 pub mod NodesByHand
 pub mod SearchLemmas
+pub mod UnboundLemmas
+pub mod UnboundTold

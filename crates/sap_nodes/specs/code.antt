@@ -1,3 +1,4 @@
 -- How the code tests nodes and looks for one: no definition that a theorem speaks of.
 pub mod NodeTests
 pub mod Searches
+pub mod Unbound

@@ -17,8 +17,8 @@ use sap_terms::{Fact, FactList, Name, Signature, Sort, Term, TermList, Var, is_r
 // How many nodes stand in front of the one that is found, or were met if none is; from the greatest u64 on, that number.
 #[derive(Clone, Copy)]
 pub(crate) struct Search {
-    at: u64,
-    found: bool,
+    pub(crate) at: u64,
+    pub(crate) found: bool,
 }
 
 /// The node of the head of the process for which the flaw is told, counted from 0 in the order in which the head is written: the
@@ -38,7 +38,7 @@ pub fn word_node(sig: &Signature, p: &Process, which: Flaw) -> Option<u64>
 }
 
 // Where it is found.
-fn told(search: Search) -> Option<u64>
+pub(crate) fn told(search: Search) -> Option<u64>
     ensures { result ≡ found_at search }
 {
     if search.found {
@@ -49,7 +49,7 @@ fn told(search: Search) -> Option<u64>
 }
 
 // One node more is met.
-fn visit(search: &mut Search, is: bool)
+pub(crate) fn visit(search: &mut Search, is: bool)
     ensures { search.new ≡ visited is search.old }
 {
     if search.found {

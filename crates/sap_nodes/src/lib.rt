@@ -4,7 +4,9 @@
 mod finding;
 mod laws;
 mod part;
+mod unbound;
 
 pub use finding::word_node;
 pub use laws::{nodes_by_hand, nodes_of_flaws};
 pub use part::Part;
+pub use unbound::unbound_node;
