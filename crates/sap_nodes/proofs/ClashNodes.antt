@@ -1,23 +1,21 @@
 -- The facts at a head are those of its nodes, and a fact that clashes is the fact of a node that does.
-use Rattle.std.proofs.Common.{◌≡◌, ℕ, zero, suc, ◌+◌, List, [], ◌∷◌, ◌++◌, Option, Some, None, inl, inr, refl, sym, ap, subst, ◌∙◌}
+use Rattle.std.proofs.Common.{◌≡◌, ℕ, zero, suc, List, [], ◌∷◌, ◌++◌, Some, inl, inr, refl, sym, ap, subst, ◌∙◌}
 use Rattle.std.specs.Prelude.{◌⊎◌, Contains, slice_get, take}
 use Rattle.std.specs.List.{flat_map}
 use Rattle.std.proofs.lemmas.List.{append-nil}
 use Rattle.std.proofs.lemmas.List.Concat.{flat_map-append}
-use Rattle.sap_terms.specs.Signature.{Sig}
 use Rattle.sap_terms.specs.Tree as tree
 use Rattle.sap_terms.specs.Tree.{Tree, Trees, none, more, trees_of, list_of}
 use Rattle.sap_terms.specs.declared.fact.Fact.{Fact}
 use Rattle.sap_terms.specs.declared.var.Var.{Var}
-use Rattle.sap_process.specs.Action.{Action, new, out, send, input, receive, event, insert, delete, lock, unlock, embedded}
+use Rattle.sap_process.specs.Action.{new, out, send, input, receive, event, insert, delete, lock, unlock, embedded}
 use Rattle.sap_process.specs.Flaws.{HasClash, HasOtherArity, HasOtherForm}
 use Rattle.sap_process.specs.Heads.{stored_facts, shown_facts}
 use Rattle.sap_process.specs.Proc.{Proc, nil, parallel, replicated, act, test, lookup}
 use Rattle.sap_process.specs.Sites.{Site}
-use Rattle.sap_process.specs.declared.flaw.Flaw.TheVariants.{FactClash}
 use Rattle.sap_nodes.specs.HeadNodes as node
 use Rattle.sap_nodes.specs.HeadNodes.{Node, tree_nodes, trees_nodes, fact_nodes, facts_nodes, head_nodes}
-use Rattle.sap_nodes.specs.FlawNodes.{Differs, stored_of, shown_of, IsClashingNode, IsFlawedAt}
+use Rattle.sap_nodes.specs.FlawNodes.{Differs, stored_of, shown_of, IsClashingNode}
 use Rattle.sap_nodes.specs.declared.part.Part.{Part}
 use Rattle.sap_nodes.specs.declared.part.Part.TheVariants.{Pattern, Shown, Given}
 
@@ -106,7 +104,7 @@ stored (act (lock t n) p) = none_in stored_of of_stored Given t
 stored (act (unlock t n) p) = none_in stored_of of_stored Given t
 stored (act (embedded l e r) p) =
     of_rule stored_of l e r l [] r (all_of stored_of of_stored Pattern (λ f. refl) l) (none_of_all stored_of of_stored Shown (λ f. refl) e)
-      (all_of stored_of of_stored Given (λ f. refl) r)
+    (all_of stored_of of_stored Given (λ f. refl) r)
 stored (test t u p q) = none_in_two stored_of of_stored Given Given t u
 stored (lookup t x p q) =
     flat_map-append stored_of (tree_nodes Given t) _ ∙ ap (λ xs. xs ++ []) (none_in stored_of of_stored Given t)
@@ -127,7 +125,7 @@ shown (act (lock t n) p) = none_in shown_of of_shown Given t
 shown (act (unlock t n) p) = none_in shown_of of_shown Given t
 shown (act (embedded l e r) p) =
     of_rule shown_of l e r [] e [] (none_of_all shown_of of_shown Pattern (λ f. refl) l) (all_of shown_of of_shown Shown (λ f. refl) e)
-      (none_of_all shown_of of_shown Given (λ f. refl) r) ∙ append-nil e
+    (none_of_all shown_of of_shown Given (λ f. refl) r) ∙ append-nil e
 shown (test t u p q) = none_in_two shown_of of_shown Given Given t u
 shown (lookup t x p q) =
     flat_map-append shown_of (tree_nodes Given t) _ ∙ ap (λ xs. xs ++ []) (none_in shown_of of_shown Given t)

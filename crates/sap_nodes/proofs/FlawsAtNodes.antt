@@ -1,12 +1,12 @@
 -- Where a place has a flaw, a node of its head has it.
-use Rattle.std.proofs.Common.{◌≡◌, ℕ, zero, suc, List, [], ◌∷◌, ◌++◌, Bool, true, false, cond, Option, Some, None, inl, inr, arith, refl, sym, ap, subst, ◌∙◌, length, filter}
+use Rattle.std.proofs.Common.{◌≡◌, ℕ, List, [], ◌∷◌, ◌++◌, Bool, true, false, cond, Option, Some, None, inl, inr, refl, sym, ap, subst, length, filter}
 use Rattle.std.specs.Prelude.{◌⊎◌, Contains, codes, nat_eq, slice_get, take, not, if◌then◌else◌}
-use Rattle.std.specs.List.{flat_map, starts_with}
+use Rattle.std.specs.List.{starts_with}
 use Rattle.std.proofs.lemmas.List.Elements.{Contains-append_left, Contains-append_right, Contains-append_cases}
 use Rattle.sap_terms.specs.Destructors.{HasDestructor, AnyHasDestructor}
 use Rattle.sap_terms.specs.Message.{IsOver, AreOver}
 use Rattle.sap_terms.specs.Same.{same_sort}
-use Rattle.sap_terms.specs.Signature.{Sig, arity_of, is_destructor_of}
+use Rattle.sap_terms.specs.Signature.{Sig, arity_of}
 use Rattle.sap_terms.specs.Tree as tree
 use Rattle.sap_terms.specs.Tree.{Tree, Trees, none, more, trees_of, list_of}
 use Rattle.sap_terms.specs.Variables.{tree_vars, trees_vars, facts_vars, is_known, new_vars}
@@ -14,9 +14,9 @@ use Rattle.sap_terms.specs.declared.fact.Fact.{Fact}
 use Rattle.sap_terms.specs.declared.var.Sort.TheVariants.{Pub}
 use Rattle.sap_terms.specs.declared.var.Var.{Var}
 use Rattle.sap_terms.proofs.PlainLaws.Items.{first_item, later_item, item_cases, cons_cases, got_contained}
-use Rattle.sap_process.specs.Action.{Action, new, out, send, input, receive, event, insert, delete, lock, unlock, embedded}
-use Rattle.sap_process.specs.Flaws.{AppliesBadly, BindsConstant, HasReservedVar, HasReservedFact, HasPatternDestructor, unbound_in, unbound_at, unbound, Rebinds, HasSortClash, HasFlaw}
-use Rattle.sap_process.specs.Heads.{terms_vars, head_terms, listed, binder, stored_facts, shown_facts, action_used, action_terms}
+use Rattle.sap_process.specs.Action.{new, out, send, input, receive, event, insert, delete, lock, unlock, embedded}
+use Rattle.sap_process.specs.Flaws.{AppliesBadly, BindsConstant, HasReservedVar, HasReservedFact, HasPatternDestructor, unbound_in, unbound, Rebinds, HasSortClash, HasFlaw}
+use Rattle.sap_process.specs.Heads.{terms_vars, head_terms, listed, binder}
 use Rattle.sap_process.specs.Proc.{Proc, nil, parallel, replicated, act, test, lookup}
 use Rattle.sap_process.specs.Sites.{Site, var_names}
 use Rattle.sap_process.specs.declared.flaw.Flaw.{Flaw}
@@ -25,9 +25,9 @@ use Rattle.sap_nodes.specs.HeadNodes as node
 use Rattle.sap_nodes.specs.HeadNodes.{Node, tree_nodes, trees_nodes, action_nodes, head_nodes}
 use Rattle.sap_nodes.specs.FlawNodes.{IsBadNode, IsReservedVarNode, IsReservedFactNode, IsDestructorNode, IsUnboundNode, IsReboundNode, IsOtherSignNode, IsFlawedNode, IsFlawedAt, IsNodeOf, IsOfHead}
 use Rattle.sap_nodes.specs.declared.part.Part.{Part}
-use Rattle.sap_nodes.specs.declared.part.Part.TheVariants.{Pattern, Shown, Given}
+use Rattle.sap_nodes.specs.declared.part.Part.TheVariants.{Pattern}
 use Rattle.sap_nodes.proofs.ClashNodes.{clashing_node}
-use Rattle.sap_nodes.proofs.Decisions.{Decided, arities, flawed_at}
+use Rattle.sap_nodes.proofs.Decisions.{arities, flawed_at}
 use Rattle.sap_nodes.proofs.HeadMembers.{none_of, Has, has_first, has_later, has_left, has_right, in_flat, head_has, pattern_has, var_has, rule_var_has, binder_has, bound_name, fact_has}
 use Rattle.sap_nodes.proofs.Least.{least}
 
@@ -39,22 +39,22 @@ mutual
   over_or_bad g a (tree.fresh k) = inl tt
   over_or_bad g a (tree.apply f ts) =
       elim (arities (arity_of g f) (length (list_of ts))) as (λ _. IsOver g (tree.apply f ts) ⊎ Has (IsBadNode g) (tree_nodes a (tree.apply f ts))) [
-        inl e ↦ elim (over_or_bads g a ts) as (λ _. IsOver g (tree.apply f ts) ⊎ Has (IsBadNode g) (tree_nodes a (tree.apply f ts))) [
-          inl o ↦ inl (e, o)
-        | inr h ↦ inr (has_later (IsBadNode g) (node.symbol a f (length (list_of ts))) (trees_nodes a ts) h)
+        | inl e ↦ elim (over_or_bads g a ts) as (λ _. IsOver g (tree.apply f ts) ⊎ Has (IsBadNode g) (tree_nodes a (tree.apply f ts))) [
+          | inl o ↦ inl (e, o)
+          | inr h ↦ inr (has_later (IsBadNode g) (node.symbol a f (length (list_of ts))) (trees_nodes a ts) h)
         ]
-      | inr refuted ↦ inr (has_first (IsBadNode g) (node.symbol a f (length (list_of ts))) (trees_nodes a ts) refuted)
+        | inr refuted ↦ inr (has_first (IsBadNode g) (node.symbol a f (length (list_of ts))) (trees_nodes a ts) refuted)
       ]
 
   over_or_bads : (g : Sig) (a : Part) (ts : Trees) → AreOver g ts ⊎ Has (IsBadNode g) (trees_nodes a ts)
   over_or_bads g a none = inl tt
   over_or_bads g a (more t ts) =
       elim (over_or_bad g a t) as (λ _. AreOver g (more t ts) ⊎ Has (IsBadNode g) (trees_nodes a (more t ts))) [
-        inl o ↦ elim (over_or_bads g a ts) as (λ _. AreOver g (more t ts) ⊎ Has (IsBadNode g) (trees_nodes a (more t ts))) [
-          inl os ↦ inl (o, os)
-        | inr h ↦ inr (has_right (IsBadNode g) (tree_nodes a t) (trees_nodes a ts) h)
+        | inl o ↦ elim (over_or_bads g a ts) as (λ _. AreOver g (more t ts) ⊎ Has (IsBadNode g) (trees_nodes a (more t ts))) [
+          | inl os ↦ inl (o, os)
+          | inr h ↦ inr (has_right (IsBadNode g) (tree_nodes a t) (trees_nodes a ts) h)
         ]
-      | inr h ↦ inr (has_left (IsBadNode g) (tree_nodes a t) (trees_nodes a ts) h)
+        | inr h ↦ inr (has_left (IsBadNode g) (tree_nodes a t) (trees_nodes a ts) h)
       ]
 
 applied_badly : (g : Sig) (s : Site) → AppliesBadly g s → Has (IsBadNode g) (head_nodes s.body)
@@ -110,8 +110,8 @@ filtered {X} p (y ∷ ys) x c = by (p y) c (filtered p ys x) where
   by false k later = later_item y ys x (later k)
   by true k later =
       elim (cons_cases y (filter p ys) x k) as (λ _. Contains (y ∷ ys) x) [
-        inl e ↦ subst (λ z. Contains (y ∷ ys) z) e (first_item y ys)
-      | inr m ↦ later_item y ys x (later m)
+        | inl e ↦ subst (λ z. Contains (y ∷ ys) z) e (first_item y ys)
+        | inr m ↦ later_item y ys x (later m)
       ]
 
 first_ones : (known : List (List ℕ)) (vs : List Var) (v : Var) → Contains (new_vars known vs) v → Contains vs v
@@ -122,8 +122,8 @@ first_ones known (w ∷ ws) v c = by (is_known known w.name) c (first_ones known
   by true k later after = later_item w ws v (later k)
   by false k later after =
       elim (cons_cases w (new_vars (known ++ w.name ∷ []) ws) v k) as (λ _. Contains (w ∷ ws) v) [
-        inl e ↦ subst (λ z. Contains (w ∷ ws) z) e (first_item w ws)
-      | inr m ↦ later_item w ws v (after m)
+        | inl e ↦ subst (λ z. Contains (w ∷ ws) z) e (first_item w ws)
+        | inr m ↦ later_item w ws v (after m)
       ]
 
 -- a variable of a rule's other sides
@@ -142,8 +142,8 @@ channel_var scope Q t u p v c q =
     let there = filtered (λ (w : Var). not (is_known (var_names scope) w.name)) (terms_vars (t ∷ [])) v c in
     let found = in_flat tree_vars (t ∷ []) v there in
     var_has Q (act (receive t u) p) v
-      (Contains-append_left (tree_vars t) (terms_vars (u ∷ [])) v
-        (subst (λ z. Contains (tree_vars z) v) (sym (item_cases t found.0 found.1)) found.2)) q
+    (Contains-append_left (tree_vars t) (terms_vars (u ∷ [])) v
+    (subst (λ z. Contains (tree_vars z) v) (sym (item_cases t found.0 found.1)) found.2)) q
 
 unbound_var : (scope : List Var) (Q : Node → Type 0) (p : Proc) (v : Var) → Contains (unbound scope p) v → Q (node.variable v) → Has Q (head_nodes p)
 unbound_var scope Q nil v c q = absurd (none_of v c)
@@ -161,8 +161,8 @@ unbound_var scope Q (act (lock t n) p) v c q = used_var scope Q (act (lock t n) 
 unbound_var scope Q (act (unlock t n) p) v c q = used_var scope Q (act (unlock t n) p) v c q
 unbound_var scope Q (act (embedded l e r) p) v c q =
     rule_var Q l e r v
-      (first_ones (var_names (scope ++ facts_vars l)) (facts_vars (e ++ r)) v
-        (filtered (λ (w : Var). not (same_sort w.sort Pub)) (new_vars (var_names (scope ++ facts_vars l)) (facts_vars (e ++ r))) v c)) q
+    (first_ones (var_names (scope ++ facts_vars l)) (facts_vars (e ++ r)) v
+    (filtered (λ (w : Var). not (same_sort w.sort Pub)) (new_vars (var_names (scope ++ facts_vars l)) (facts_vars (e ++ r))) v c)) q
 unbound_var scope Q (test t u p r) v c q = used_var scope Q (test t u p r) v c q
 unbound_var scope Q (lookup t x p r) v c q = used_var scope Q (lookup t x p r) v c q
 

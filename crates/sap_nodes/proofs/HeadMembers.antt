@@ -1,5 +1,5 @@
 -- What stands at a head stands among its nodes.
-use Rattle.std.proofs.Common.{◌≡◌, ℕ, List, [], ◌∷◌, ◌++◌, Option, Some, None, inl, inr, arith, refl, sym, ap, subst}
+use Rattle.std.proofs.Common.{◌≡◌, List, [], ◌∷◌, ◌++◌, Some, inl, inr, arith, refl, sym, ap, subst}
 use Rattle.std.specs.Prelude.{◌⊎◌, Contains}
 use Rattle.std.specs.List.{flat_map}
 use Rattle.std.proofs.lemmas.List.Elements.{Contains-append_left, Contains-append_right, Contains-append_cases}
@@ -10,7 +10,7 @@ use Rattle.sap_terms.specs.declared.fact.Fact.{Fact}
 use Rattle.sap_terms.specs.declared.var.Var.{Var}
 use Rattle.sap_terms.proofs.PlainLaws.Items.{first_item, later_item, item_cases, cons_cases}
 use Rattle.sap_process.specs.Action.{Action, new, out, send, input, receive, event, insert, delete, lock, unlock, embedded}
-use Rattle.sap_process.specs.Heads.{facts_terms, terms_vars, action_terms, head_terms, action_binder, binder, bound_as, action_patterns, patterns, stored_facts, shown_facts}
+use Rattle.sap_process.specs.Heads.{facts_terms, terms_vars, action_terms, head_terms, binder, bound_as, action_patterns, patterns, stored_facts, shown_facts}
 use Rattle.sap_process.specs.Proc.{Proc, nil, parallel, replicated, act, test, lookup}
 use Rattle.sap_process.specs.Sites.{message_var}
 use Rattle.sap_nodes.specs.HeadNodes as node
@@ -140,8 +140,8 @@ mutual
   trees_have Q v q a none c = absurd (none_of v c)
   trees_have Q v q a (more t ts) c =
       elim (Contains-append_cases (tree_vars t) (trees_vars ts) v c) as (λ _. Has Q (trees_nodes a (more t ts))) [
-        inl k ↦ has_left Q (tree_nodes a t) (trees_nodes a ts) (tree_has Q v q a t k)
-      | inr k ↦ has_right Q (tree_nodes a t) (trees_nodes a ts) (trees_have Q v q a ts k)
+        | inl k ↦ has_left Q (tree_nodes a t) (trees_nodes a ts) (tree_has Q v q a t k)
+        | inr k ↦ has_right Q (tree_nodes a t) (trees_nodes a ts) (trees_have Q v q a ts k)
       ]
 
 -- a variable in a term there
@@ -164,7 +164,7 @@ pub binder_has : (Q : Node → Type 0) (p : Proc) (v : Var) → bound_as p ≡ S
 binder_has Q (act (new x) p) v e q = has_first Q (node.binder x) [] (subst (λ z. Q (node.binder z)) (sym (some_one x v e)) q)
 binder_has Q (lookup t x p q) v e h =
     has_right Q (tree_nodes Given t) (node.binder (message_var x) ∷ [])
-      (has_first Q (node.binder (message_var x)) [] (subst (λ z. Q (node.binder z)) (sym (some_one (message_var x) v e)) h))
+    (has_first Q (node.binder (message_var x)) [] (subst (λ z. Q (node.binder z)) (sym (some_one (message_var x) v e)) h))
 binder_has Q _ v e h = cc
 
 -- what is bound has the name of the binder

@@ -1,5 +1,5 @@
 -- The first number of which something holds.
-use Rattle.std.proofs.Common.{◌≡◌, ℕ, zero, suc, ◌<◌, inl, inr, arith, subst, sym}
+use Rattle.std.proofs.Common.{ℕ, zero, suc, ◌<◌, inl, inr, arith, subst}
 use Rattle.std.specs.Prelude.{◌⊎◌}
 use Rattle.sap_terms.proofs.PlainLaws.Numbers.{same_number}
 

@@ -1,6 +1,6 @@
 -- Searches through nodes, and what they find.
 use Rattle.std.proofs.Common.{◌≡◌, ℕ, zero, suc, ◌+◌, ◌<◌, ◌≤◌, List, [], ◌∷◌, ◌++◌, Bool, true, false, Option, Some, None, length, get_or, drop, inl, inr, arith, refl, sym, ap, subst, ◌∙◌}
-use Rattle.std.specs.Prelude.{◌⊎◌, not, ◌&&◌, min, nat_eq, slice_get, take, if◌then◌else◌}
+use Rattle.std.specs.Prelude.{◌⊎◌, not, min, slice_get, take, if◌then◌else◌}
 use Rattle.std.proofs.lemmas.Bool.Decides.{Decides-eqb}
 use Rattle.std.proofs.lemmas.Option.{slice_get_read}
 use Rattle.sap_terms.specs.Same.{same_sort}
@@ -9,18 +9,16 @@ use Rattle.sap_terms.specs.TermTests.{has_arity}
 use Rattle.sap_terms.specs.Tree.{Tree, trees_of, list_of-trees_of}
 use Rattle.sap_terms.specs.declared.fact.Fact.{Fact}
 use Rattle.sap_terms.specs.declared.var.Sort.{Sort}
-use Rattle.sap_terms.specs.declared.var.Sort.TheVariants.{Msg, Fresh, Pub}
-use Rattle.sap_terms.specs.declared.var.Var.{Var}
+use Rattle.sap_terms.specs.declared.var.Sort.TheVariants.{Msg}
 use Rattle.sap_terms.proofs.PlainLaws.Lists.{drop_got}
 use Rattle.sap_terms.proofs.PlainLaws.Tests.{and_true, and_left, and_right}
 use Rattle.sap_terms.proofs.PlainLaws.Trees.{item_le-trees_count}
 use Rattle.sap_process.specs.Proc.{Proc}
 use Rattle.sap_process.specs.Sites.{Site}
-use Rattle.sap_process.specs.code.Tests.{is_constant}
 use Rattle.sap_process.specs.declared.flaw.Flaw.{Flaw}
 use Rattle.sap_process.specs.declared.flaw.Flaw.TheVariants.{BadFunction, ReservedVar, ReservedFact, FactClash, PatternDestructor, Unbound, Rebound, SortClash, ScopeFull}
 use Rattle.sap_nodes.specs.HeadNodes.{Node, binder, variable, public, fresh, symbol, fact, tree_nodes, trees_nodes, fact_nodes, facts_nodes, head_nodes}
-use Rattle.sap_nodes.specs.FlawNodes.{IsFlawedNode, IsFlawedAt, IsNodeOf, IsOfWords, IsTold}
+use Rattle.sap_nodes.specs.FlawNodes.{IsFlawedNode, IsFlawedAt, IsOfWords, IsTold}
 use Rattle.sap_nodes.specs.code.NodeTests.{is_such}
 use Rattle.sap_nodes.specs.code.Searches.{most, visited, after, at_first, found_at}
 use Rattle.sap_nodes.specs.declared.finding.Search.{Search}
@@ -184,18 +182,21 @@ told_of g before s w o = by (outcome (is_such g w) (head_nodes s.body) 0 (omega 
       ⊎ Miss (is_such g w) (head_nodes s.body) (after (is_such g w) at_first (head_nodes s.body))
       → IsTold g before s w (found_at (after (is_such g w) at_first (head_nodes s.body)))
   by (inl h) = subst (IsTold g before s w)
-    (sym (ap (λ (b : Bool). if b then Some (after (is_such g w) at_first (head_nodes s.body)).at else None) h.found))
-    (h.place, record {
-      here = record {
-        node = h.node;
-        stands = h.stands;
-        flaw = (tells g before s w o (take h.place (head_nodes s.body)) h.node).0 h.such;
-      };
-      first = λ j l f. fails j f (h.first j f.node l f.stands);
-    }, let c = h.counted in omega (arith, c))
+      (sym (ap (λ (b : Bool). if b then Some (after (is_such g w) at_first (head_nodes s.body)).at else None) h.found)) (
+        h.place,
+        record {
+          here = record {
+            node = h.node;
+            stands = h.stands;
+            flaw = (tells g before s w o (take h.place (head_nodes s.body)) h.node).0 h.such;
+          };
+          first = λ j l f. fails j f (h.first j f.node l f.stands);
+        },
+        let c = h.counted in omega (arith, c),
+      )
   by (inr h) = subst (IsTold g before s w)
-    (sym (ap (λ (b : Bool). if b then Some (after (is_such g w) at_first (head_nodes s.body)).at else None) h.found))
-    (λ k f. fails k f.here (h.each k f.here.node f.here.stands))
+      (sym (ap (λ (b : Bool). if b then Some (after (is_such g w) at_first (head_nodes s.body)).at else None) h.found))
+      (λ k f. fails k f.here (h.each k f.here.node f.here.stands))
 
 pub told_node : (g : Sig) (before : List Site) (s : Site) (p : Proc) (w : Flaw) → IsOfWords w → s.body ≡ p
     → IsTold g before s w (found_at (after (is_such g w) at_first (head_nodes p)))

@@ -1,27 +1,26 @@
 -- Searches for a variable that nothing binds, and what they find.
 use Rattle.std.proofs.Common.{◌≡◌, ℕ, zero, suc, ◌+◌, ◌<◌, ◌≤◌, List, [], ◌∷◌, ◌++◌, Bool, true, false, cond, Option, Some, None, is_some, inl, inr, arith, length, drop, filter, refl, sym, ap, subst, ◌∙◌, Bor}
-use Rattle.std.specs.Prelude.{◌⊎◌, Contains, not, ◌&&◌, ◌||◌, min, slice_get, take, map, if◌then◌else◌}
+use Rattle.std.specs.Prelude.{◌⊎◌, Contains, not, ◌&&◌, ◌||◌, min, slice_get, if◌then◌else◌}
 use Rattle.std.specs.List.{flat_map}
 use Rattle.std.specs.Option.{option_copied}
 use Rattle.std.specs.Str.{bytes_eq}
 use Rattle.std.proofs.lemmas.List.{append-nil, append_assoc}
-use Rattle.std.proofs.lemmas.List.Concat.{flat_map-append}
 use Rattle.sap_terms.specs.Named.{first_named}
 use Rattle.sap_terms.specs.Same.{same_sort}
 use Rattle.sap_terms.specs.Tree as tree
 use Rattle.sap_terms.specs.Tree.{Tree, Trees, none, more, trees_of, list_of-trees_of}
-use Rattle.sap_terms.specs.Variables.{tree_vars, trees_vars, is_known, new_vars}
+use Rattle.sap_terms.specs.Variables.{is_known, new_vars}
 use Rattle.sap_terms.specs.declared.fact.Fact.{Fact}
 use Rattle.sap_terms.specs.declared.var.Sort.TheVariants.{Pub}
 use Rattle.sap_terms.specs.declared.var.Var.{Var}
-use Rattle.sap_terms.proofs.PlainLaws.Items.{first_item, later_item, cons_cases}
+use Rattle.sap_terms.proofs.PlainLaws.Items.{first_item, cons_cases}
 use Rattle.sap_terms.proofs.PlainLaws.Known.{own_name}
 use Rattle.sap_terms.proofs.PlainLaws.Lists.{drop_got}
 use Rattle.sap_terms.proofs.PlainLaws.Trees.{item_le-trees_count}
 use Rattle.sap_process.specs.Sites.{var_names}
 use Rattle.sap_nodes.specs.HeadNodes.{Node, binder, variable, public, fresh, symbol, fact, tree_nodes, trees_nodes, fact_nodes, facts_nodes}
 use Rattle.sap_nodes.specs.code.Searches.{most, visited}
-use Rattle.sap_nodes.specs.code.Unbound.{is_bound, is_free, met, met_all}
+use Rattle.sap_nodes.specs.code.Unbound.{is_bound, met, met_all}
 use Rattle.sap_nodes.specs.declared.finding.Search.{Search}
 use Rattle.sap_nodes.specs.declared.part.Part.{Part}
 use Rattle.sap_nodes.specs.declared.unbound.Binds.{Binds}
@@ -163,13 +162,13 @@ outcome_used known (variable v ∷ ns) at l = by (is_known (var_names known) v.n
       → Hit (unknown known (flat_map vars_of ns)) ns (min (at + 1) most) (searched Nothing known (min (at + 1) most) ns)
       ⊎ Miss (unknown known (flat_map vars_of ns)) (searched Nothing known (min (at + 1) most) ns)
       → Hit (cond (not b) (v ∷ unknown known (flat_map vars_of ns)) (unknown known (flat_map vars_of ns))) (variable v ∷ ns) at
-        (met_all Nothing (record { known = known; search = visited (not b) (record { at = at; found = false }) }) ns).search
+      (met_all Nothing (record { known = known; search = visited (not b) (record { at = at; found = false }) }) ns).search
       ⊎ Miss (cond (not b) (v ∷ unknown known (flat_map vars_of ns)) (unknown known (flat_map vars_of ns)))
-        (met_all Nothing (record { known = known; search = visited (not b) (record { at = at; found = false }) }) ns).search
+      (met_all Nothing (record { known = known; search = visited (not b) (record { at = at; found = false }) }) ns).search
   by true e later = past (unknown known (flat_map vars_of ns)) (variable v) ns at (searched Nothing known (min (at + 1) most) ns) (known_one e) later
   by false e later =
       inl (subst (Hit (v ∷ unknown known (flat_map vars_of ns)) (variable v ∷ ns) at) (sym (stays Nothing known at ns))
-        (here (unknown known (flat_map vars_of ns)) v ns at l))
+      (here (unknown known (flat_map vars_of ns)) v ns at l))
 
 -- first occurrences of names that are not known, but for those that are written `$x`
 abbrev pub unsigned_new : List (List ℕ) → List Var → List Var
@@ -192,8 +191,8 @@ new_unknown names (w ∷ ws) v c = by (is_known names w.name) refl c (new_unknow
   by true e k later after = later k
   by false e k later after =
       elim (cons_cases w (new_vars (names ++ w.name ∷ []) ws) v k) as (λ _. is_known names v.name ≡ false) [
-        inl d ↦ subst (λ (z : Var). is_known names z.name ≡ false) d e
-      | inr m ↦ shorter names w.name v.name (after m)
+        | inl d ↦ subst (λ (z : Var). is_known names z.name ≡ false) d e
+        | inr m ↦ shorter names w.name v.name (after m)
       ]
 
 names_push : (vs : List Var) (v : Var) → var_names (vs ++ v ∷ []) ≡ var_names vs ++ v.name ∷ []
@@ -206,24 +205,24 @@ pub outcome_rule : (known : List Var) (ns : List Node) (at : ℕ) → at ≤ mos
 outcome_rule known [] at l = inr (record { nothing = refl; found = refl })
 outcome_rule known (binder v ∷ ns) at l =
     past (unsigned_new (var_names known) (flat_map vars_of ns)) (binder v) ns at (searched Public known (min (at + 1) most) ns) (λ u e c. cc)
-      (outcome_rule known ns (min (at + 1) most) (omega arith))
+    (outcome_rule known ns (min (at + 1) most) (omega arith))
 outcome_rule known (public n ∷ ns) at l =
     past (unsigned_new (var_names known) (flat_map vars_of ns)) (public n) ns at (searched Public known (min (at + 1) most) ns) (λ u e c. cc)
-      (outcome_rule known ns (min (at + 1) most) (omega arith))
+    (outcome_rule known ns (min (at + 1) most) (omega arith))
 outcome_rule known (fresh k ∷ ns) at l =
     past (unsigned_new (var_names known) (flat_map vars_of ns)) (fresh k) ns at (searched Public known (min (at + 1) most) ns) (λ u e c. cc)
-      (outcome_rule known ns (min (at + 1) most) (omega arith))
+    (outcome_rule known ns (min (at + 1) most) (omega arith))
 outcome_rule known (symbol a f k ∷ ns) at l =
     past (unsigned_new (var_names known) (flat_map vars_of ns)) (symbol a f k) ns at (searched Public known (min (at + 1) most) ns) (λ u e c. cc)
-      (outcome_rule known ns (min (at + 1) most) (omega arith))
+    (outcome_rule known ns (min (at + 1) most) (omega arith))
 outcome_rule known (fact a f ∷ ns) at l =
     past (unsigned_new (var_names known) (flat_map vars_of ns)) (fact a f) ns at (searched Public known (min (at + 1) most) ns) (λ u e c. cc)
-      (outcome_rule known ns (min (at + 1) most) (omega arith))
+    (outcome_rule known ns (min (at + 1) most) (omega arith))
 outcome_rule known (variable v ∷ ns) at l =
     by (is_known (var_names known) v.name) refl (outcome_rule known ns (min (at + 1) most) (omega arith))
-      (subst (λ (names : List (List ℕ)). Hit (unsigned_new names (flat_map vars_of ns)) ns (min (at + 1) most) (searched Public (known ++ v ∷ []) (min (at + 1) most) ns)
-        ⊎ Miss (unsigned_new names (flat_map vars_of ns)) (searched Public (known ++ v ∷ []) (min (at + 1) most) ns)) (names_push known v)
-        (outcome_rule (known ++ v ∷ []) ns (min (at + 1) most) (omega arith)))
+    (subst (λ (names : List (List ℕ)). Hit (unsigned_new names (flat_map vars_of ns)) ns (min (at + 1) most) (searched Public (known ++ v ∷ []) (min (at + 1) most) ns)
+    ⊎ Miss (unsigned_new names (flat_map vars_of ns)) (searched Public (known ++ v ∷ []) (min (at + 1) most) ns)) (names_push known v)
+    (outcome_rule (known ++ v ∷ []) ns (min (at + 1) most) (omega arith)))
   where
     known_one : is_known (var_names known) v.name ≡ true → (u : Var) → Some (variable v) ≡ Some (variable u)
         → Contains (unsigned_new (var_names known) (flat_map vars_of ns)) u → ⊥
@@ -244,15 +243,15 @@ outcome_rule known (variable v ∷ ns) at l =
         → Hit (unsigned_new (var_names known ++ v.name ∷ []) (flat_map vars_of ns)) ns (min (at + 1) most) (searched Public (known ++ v ∷ []) (min (at + 1) most) ns)
         ⊎ Miss (unsigned_new (var_names known ++ v.name ∷ []) (flat_map vars_of ns)) (searched Public (known ++ v ∷ []) (min (at + 1) most) ns)
         → Hit (cond (not c) (v ∷ unsigned_new (var_names known ++ v.name ∷ []) (flat_map vars_of ns)) (unsigned_new (var_names known ++ v.name ∷ []) (flat_map vars_of ns)))
-          (variable v ∷ ns) at
-          (met_all Public (record { known = if c then known ++ v ∷ [] else known; search = visited (not c) (record { at = at; found = false }) }) ns).search
+        (variable v ∷ ns) at
+        (met_all Public (record { known = if c then known ++ v ∷ [] else known; search = visited (not c) (record { at = at; found = false }) }) ns).search
         ⊎ Miss (cond (not c) (v ∷ unsigned_new (var_names known ++ v.name ∷ []) (flat_map vars_of ns)) (unsigned_new (var_names known ++ v.name ∷ []) (flat_map vars_of ns)))
-          (met_all Public (record { known = if c then known ++ v ∷ [] else known; search = visited (not c) (record { at = at; found = false }) }) ns).search
+        (met_all Public (record { known = if c then known ++ v ∷ [] else known; search = visited (not c) (record { at = at; found = false }) }) ns).search
     signed true e pushed =
         past (unsigned_new (var_names known ++ v.name ∷ []) (flat_map vars_of ns)) (variable v) ns at (searched Public (known ++ v ∷ []) (min (at + 1) most) ns) (signed_one e) pushed
     signed false e pushed =
         inl (subst (Hit (v ∷ unsigned_new (var_names known ++ v.name ∷ []) (flat_map vars_of ns)) (variable v ∷ ns) at) (sym (stays Public known at ns))
-          (here (unsigned_new (var_names known ++ v.name ∷ []) (flat_map vars_of ns)) v ns at l))
+        (here (unsigned_new (var_names known ++ v.name ∷ []) (flat_map vars_of ns)) v ns at l))
 
     by : (b : Bool) → is_known (var_names known) v.name ≡ b
         → Hit (unsigned_new (var_names known) (flat_map vars_of ns)) ns (min (at + 1) most) (searched Public known (min (at + 1) most) ns)
@@ -260,16 +259,16 @@ outcome_rule known (variable v ∷ ns) at l =
         → Hit (unsigned_new (var_names known ++ v.name ∷ []) (flat_map vars_of ns)) ns (min (at + 1) most) (searched Public (known ++ v ∷ []) (min (at + 1) most) ns)
         ⊎ Miss (unsigned_new (var_names known ++ v.name ∷ []) (flat_map vars_of ns)) (searched Public (known ++ v ∷ []) (min (at + 1) most) ns)
         → Hit (filter (λ (w : Var). not (same_sort w.sort Pub)) (if b then new_vars (var_names known) (flat_map vars_of ns) else v ∷ new_vars (var_names known ++ v.name ∷ []) (flat_map vars_of ns)))
-          (variable v ∷ ns) at
-          (met_all Public (record {
-            known = if not b && same_sort v.sort Pub then known ++ v ∷ [] else known;
-            search = visited (not b && not (same_sort v.sort Pub)) (record { at = at; found = false });
-          }) ns).search
+        (variable v ∷ ns) at
+        (met_all Public (record {
+          known = if not b && same_sort v.sort Pub then known ++ v ∷ [] else known;
+          search = visited (not b && not (same_sort v.sort Pub)) (record { at = at; found = false });
+        }) ns).search
         ⊎ Miss (filter (λ (w : Var). not (same_sort w.sort Pub)) (if b then new_vars (var_names known) (flat_map vars_of ns) else v ∷ new_vars (var_names known ++ v.name ∷ []) (flat_map vars_of ns)))
-          (met_all Public (record {
-            known = if not b && same_sort v.sort Pub then known ++ v ∷ [] else known;
-            search = visited (not b && not (same_sort v.sort Pub)) (record { at = at; found = false });
-          }) ns).search
+        (met_all Public (record {
+          known = if not b && same_sort v.sort Pub then known ++ v ∷ [] else known;
+          search = visited (not b && not (same_sort v.sort Pub)) (record { at = at; found = false });
+        }) ns).search
     by true e later pushed =
         past (unsigned_new (var_names known) (flat_map vars_of ns)) (variable v) ns at (searched Public known (min (at + 1) most) ns) (known_one e) later
     by false e later pushed = signed (same_sort v.sort Pub) refl pushed
@@ -296,7 +295,7 @@ behind_left known [] at l = trail_is known (known ++ []) at (min (at + 0) most) 
 behind_left known (variable v ∷ ns) at l =
     behind_left (known ++ v ∷ []) ns (min (at + 1) most) (omega arith)
     ∙ trail_is ((known ++ v ∷ []) ++ flat_map vars_of ns) (known ++ (v ∷ flat_map vars_of ns)) (min (min (at + 1) most + length ns) most) (min (at + suc (length ns)) most)
-      (append_assoc known (v ∷ []) (flat_map vars_of ns)) (one_more at (length ns))
+    (append_assoc known (v ∷ []) (flat_map vars_of ns)) (one_more at (length ns))
 behind_left known (binder v ∷ ns) at l = behind_left known ns (min (at + 1) most) (omega arith) ∙ next known ns at
 behind_left known (public n ∷ ns) at l = behind_left known ns (min (at + 1) most) (omega arith) ∙ next known ns at
 behind_left known (fresh k ∷ ns) at l = behind_left known ns (min (at + 1) most) (omega arith) ∙ next known ns at

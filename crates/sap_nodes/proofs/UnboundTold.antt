@@ -1,18 +1,17 @@
 -- A search for a variable that nothing binds tells of which node the flaw speaks.
-use Rattle.std.proofs.Common.{◌≡◌, ℕ, zero, suc, ◌+◌, ◌<◌, ◌≤◌, List, [], ◌∷◌, ◌++◌, Bool, true, false, Option, Some, None, inl, inr, arith, length, refl, sym, ap, subst, ◌∙◌}
-use Rattle.std.specs.Prelude.{◌⊎◌, Contains, min, slice_get, take, if◌then◌else◌}
+use Rattle.std.proofs.Common.{◌≡◌, ℕ, zero, suc, ◌+◌, ◌<◌, List, [], ◌∷◌, ◌++◌, Bool, true, Some, None, inl, inr, arith, length, refl, sym, ap, subst, ◌∙◌}
+use Rattle.std.specs.Prelude.{◌⊎◌, Contains, min, slice_get, if◌then◌else◌}
 use Rattle.std.specs.List.{flat_map}
 use Rattle.std.proofs.lemmas.List.{append-nil}
 use Rattle.std.proofs.lemmas.List.Concat.{flat_map-append}
-use Rattle.std.proofs.lemmas.List.Elements.{Contains-append_left, Contains-append_right}
+use Rattle.std.proofs.lemmas.List.Elements.{Contains-append_right}
 use Rattle.sap_terms.specs.Signature.{Sig}
 use Rattle.sap_terms.specs.Tree as tree
 use Rattle.sap_terms.specs.Tree.{Tree, Trees, none, more, trees_of}
-use Rattle.sap_terms.specs.Variables.{tree_vars, trees_vars, facts_vars, is_known}
+use Rattle.sap_terms.specs.Variables.{tree_vars, trees_vars, facts_vars}
 use Rattle.sap_terms.specs.declared.fact.Fact.{Fact}
 use Rattle.sap_terms.specs.declared.var.Var.{Var}
 use Rattle.sap_terms.proofs.PlainLaws.Items.{first_item, later_item, cons_cases}
-use Rattle.sap_terms.proofs.PlainLaws.Known.{own_name}
 use Rattle.sap_process.specs.Action.{Action, new, out, send, input, receive, event, insert, delete, lock, unlock, embedded}
 use Rattle.sap_process.specs.Flaws.{unbound}
 use Rattle.sap_process.specs.Heads.{terms_vars}
@@ -20,14 +19,13 @@ use Rattle.sap_process.specs.Proc.{Proc, nil, parallel, replicated, act, test, l
 use Rattle.sap_process.specs.Sites.{Site, var_names}
 use Rattle.sap_process.specs.declared.flaw.Flaw.TheVariants.{Unbound}
 use Rattle.sap_nodes.specs.HeadNodes.{Node, binder, variable, public, fresh, symbol, fact, tree_nodes, trees_nodes, fact_nodes, facts_nodes, head_nodes}
-use Rattle.sap_nodes.specs.FlawNodes.{IsUnboundNode, IsFlawedAt, IsNodeOf, IsTold}
+use Rattle.sap_nodes.specs.FlawNodes.{IsUnboundNode, IsFlawedAt, IsTold}
 use Rattle.sap_nodes.specs.code.Searches.{most, at_first, found_at}
 use Rattle.sap_nodes.specs.code.Unbound.{met_all, head_met}
 use Rattle.sap_nodes.specs.declared.finding.Search.{Search}
 use Rattle.sap_nodes.specs.declared.part.Part.{Part}
 use Rattle.sap_nodes.specs.declared.part.Part.TheVariants.{Pattern, Shown, Given}
 use Rattle.sap_nodes.specs.declared.unbound.Binds.TheVariants.{Each, Public, Nothing}
-use Rattle.sap_nodes.proofs.FlawsAtNodes.{filtered}
 use Rattle.sap_nodes.proofs.HeadMembers.{none_of}
 use Rattle.sap_nodes.proofs.UnboundLemmas.{vars_of, Hit, Miss, unknown, unsigned_new, searched, new_known_not, trail_of, outcome_used, outcome_rule, behind_left}
 
@@ -53,10 +51,14 @@ hit : (g : Sig) (before : List Site) (s : Site) (free : List Var) (r : Search) (
     → ((j : ℕ) (u : Var) → j < k → slice_get (head_nodes s.body) j ≡ Some (variable u) → Contains free u → ⊥)
     → r.found ≡ true → r.at ≡ min k most → IsTold g before s Unbound (found_at r)
 hit g before s free r k v e stands is first found counted =
-    subst (IsTold g before s Unbound) (sym (ap (λ (b : Bool). if b then Some r.at else None) found)) (k, record {
-      here = record { node = variable v; stands = stands; flaw = subst (λ vs. Contains vs v) (sym e) is };
-      first = earlier;
-    }, counted)
+    subst (IsTold g before s Unbound) (sym (ap (λ (b : Bool). if b then Some r.at else None) found)) (
+      k,
+      record {
+        here = record { node = variable v; stands = stands; flaw = subst (λ vs. Contains vs v) (sym e) is };
+        first = earlier;
+      },
+      counted,
+    )
   where
     earlier : (j : ℕ) → j < k → IsFlawedAt g before s Unbound j → ⊥
     earlier j l h =
@@ -98,9 +100,9 @@ told_used g before s used rest e free = by (outcome_used s.above.scope used 0 (o
       → IsTold g before s Unbound (found_at (searched Nothing s.above.scope 0 used))
   by (inr m) = missed g before s (unknown s.above.scope (flat_map vars_of used)) (searched Nothing s.above.scope 0 used) free m
   by (inl h) = hit g before s (unknown s.above.scope (flat_map vars_of used)) (searched Nothing s.above.scope 0 used) h.place h.var free
-    (ap (λ ns. slice_get ns h.place) e ∙ front_got used rest h.place (variable h.var) h.stands) h.is
-    (λ j u l k c. h.first j u l (sym (front_same used rest h.place (variable h.var) h.stands j l) ∙ sym (ap (λ ns. slice_get ns j) e) ∙ k) c)
-    h.found (let n = h.counted in omega (arith, n))
+      (ap (λ ns. slice_get ns h.place) e ∙ front_got used rest h.place (variable h.var) h.stands) h.is
+      (λ j u l k c. h.first j u l (sym (front_same used rest h.place (variable h.var) h.stands j l) ∙ sym (ap (λ ns. slice_get ns j) e) ∙ k) c)
+      h.found (let n = h.counted in omega (arith, n))
 
 -- the variable of a node is one of theirs
 var_in : (ns : List Node) (v : Var) → Contains ns (variable v) → Contains (flat_map vars_of ns) v
@@ -117,23 +119,23 @@ told_rule : (g : Sig) (before : List Site) (s : Site) (left right : List Node) �
 told_rule g before s left right e free = by (outcome_rule (s.above.scope ++ flat_map vars_of left) right (min (0 + length left) most) (omega arith)) where
   known : (u : Var) → Contains left (variable u) → Contains (unsigned_new (var_names (s.above.scope ++ flat_map vars_of left)) (flat_map vars_of right)) u → ⊥
   known u l c = new_known_not (s.above.scope ++ flat_map vars_of left) (flat_map vars_of right) u
-    (Contains-append_right s.above.scope (flat_map vars_of left) u (var_in left u l)) c
+      (Contains-append_right s.above.scope (flat_map vars_of left) u (var_in left u l)) c
 
   by : Hit (unsigned_new (var_names (s.above.scope ++ flat_map vars_of left)) (flat_map vars_of right)) right (min (0 + length left) most)
-        (searched Public (s.above.scope ++ flat_map vars_of left) (min (0 + length left) most) right)
+      (searched Public (s.above.scope ++ flat_map vars_of left) (min (0 + length left) most) right)
       ⊎ Miss (unsigned_new (var_names (s.above.scope ++ flat_map vars_of left)) (flat_map vars_of right))
-        (searched Public (s.above.scope ++ flat_map vars_of left) (min (0 + length left) most) right)
+      (searched Public (s.above.scope ++ flat_map vars_of left) (min (0 + length left) most) right)
       → IsTold g before s Unbound (found_at (searched Public (s.above.scope ++ flat_map vars_of left) (min (0 + length left) most) right))
   by (inr m) = missed g before s (unsigned_new (var_names (s.above.scope ++ flat_map vars_of left)) (flat_map vars_of right))
-    (searched Public (s.above.scope ++ flat_map vars_of left) (min (0 + length left) most) right) free m
+      (searched Public (s.above.scope ++ flat_map vars_of left) (min (0 + length left) most) right) free m
   by (inl h) =
       let at = back_got left right h.place (variable h.var) h.stands in
       let is = at.1 in
       let n = h.counted in
       hit g before s (unsigned_new (var_names (s.above.scope ++ flat_map vars_of left)) (flat_map vars_of right))
-        (searched Public (s.above.scope ++ flat_map vars_of left) (min (0 + length left) most) right) at.0 h.var free
-        (ap (λ ns. slice_get ns at.0) e ∙ at.2) h.is
-        (earlier h.place at.0 is h.first) h.found (omega (arith, is, n))
+      (searched Public (s.above.scope ++ flat_map vars_of left) (min (0 + length left) most) right) at.0 h.var free
+      (ap (λ ns. slice_get ns at.0) e ∙ at.2) h.is
+      (earlier h.place at.0 is h.first) h.found (omega (arith, is, n))
     where
       earlier : (p i : ℕ) → i ≡ length left + p
           → ((j : ℕ) (u : Var) → j < p → slice_get right j ≡ Some (variable u) → Contains (unsigned_new (var_names (s.above.scope ++ flat_map vars_of left)) (flat_map vars_of right)) u → ⊥)
@@ -141,8 +143,8 @@ told_rule g before s left right e free = by (outcome_rule (s.above.scope ++ flat
           → Contains (unsigned_new (var_names (s.above.scope ++ flat_map vars_of left)) (flat_map vars_of right)) u → ⊥
       earlier p i is first j u l k c =
           elim (got_cases left right j (variable u) (sym (ap (λ ns. slice_get ns j) e) ∙ k)) as (λ _. ⊥) [
-            inl there ↦ known u there c
-          | inr behind ↦ let at = behind.1 in first behind.0 u (omega (arith, is, l, at)) behind.2 c
+            | inl there ↦ known u there c
+            | inr behind ↦ let at = behind.1 in first behind.0 u (omega (arith, is, l, at)) behind.2 c
           ]
 
 -- the variables of nodes
@@ -198,19 +200,19 @@ two_told : (g : Sig) (before : List Site) (s : Site) (t u : Tree) → head_nodes
     → IsTold g before s Unbound (found_at (searched Nothing s.above.scope 0 (tree_nodes Given t ++ tree_nodes Given u)))
 two_told g before s t u e free =
     told_used g before s (tree_nodes Given t ++ tree_nodes Given u) [] (e ∙ sym (append-nil (tree_nodes Given t ++ tree_nodes Given u)))
-      (free ∙ ap (unknown s.above.scope) (two_variables t u))
+    (free ∙ ap (unknown s.above.scope) (two_variables t u))
 
 rule_told : (g : Sig) (before : List Site) (s : Site) (l e r : List Fact)
     → head_nodes s.body ≡ facts_nodes Pattern l ++ (facts_nodes Shown e ++ facts_nodes Given r)
     → unbound s.above.scope s.body ≡ unsigned_new (var_names (s.above.scope ++ facts_vars l)) (facts_vars (e ++ r))
     → IsTold g before s Unbound
-      (found_at (met_all Public (met_all Each (trail_of s.above.scope 0) (facts_nodes Pattern l)) (facts_nodes Shown e ++ facts_nodes Given r)).search)
+    (found_at (met_all Public (met_all Each (trail_of s.above.scope 0) (facts_nodes Pattern l)) (facts_nodes Shown e ++ facts_nodes Given r)).search)
 rule_told g before s l e r nodes free =
     subst (λ a. IsTold g before s Unbound (found_at (met_all Public a (facts_nodes Shown e ++ facts_nodes Given r)).search))
-      (sym (behind_left s.above.scope (facts_nodes Pattern l) 0 (omega arith)))
-      (told_rule g before s (facts_nodes Pattern l) (facts_nodes Shown e ++ facts_nodes Given r) nodes
-        (free ∙ ap (λ vs. unsigned_new (var_names (s.above.scope ++ vs)) (facts_vars (e ++ r))) (sym (facts_variables Pattern l))
-          ∙ ap (unsigned_new (var_names (s.above.scope ++ flat_map vars_of (facts_nodes Pattern l)))) (other_variables e r)))
+    (sym (behind_left s.above.scope (facts_nodes Pattern l) 0 (omega arith)))
+    (told_rule g before s (facts_nodes Pattern l) (facts_nodes Shown e ++ facts_nodes Given r) nodes
+    (free ∙ ap (λ vs. unsigned_new (var_names (s.above.scope ++ vs)) (facts_vars (e ++ r))) (sym (facts_variables Pattern l))
+    ∙ ap (unsigned_new (var_names (s.above.scope ++ flat_map vars_of (facts_nodes Pattern l)))) (other_variables e r)))
 
 same_free : (s : Site) (p : Proc) → s.body ≡ p → unbound s.above.scope s.body ≡ unbound s.above.scope p
 same_free s p e = ap (unbound s.above.scope) e
@@ -223,7 +225,7 @@ told_action g before s (input t) p e = told_used g before s [] (tree_nodes Patte
 told_action g before s (receive t u) p e = one_told g before s t (tree_nodes Pattern u) (ap head_nodes e) (same_free s _ e)
 told_action g before s (event f) p e =
     told_used g before s (fact_nodes Shown f) [] (ap head_nodes e ∙ sym (append-nil (fact_nodes Shown f)))
-      (same_free s _ e ∙ ap (unknown s.above.scope) (sym (list_variables Shown f.args)))
+    (same_free s _ e ∙ ap (unknown s.above.scope) (sym (list_variables Shown f.args)))
 told_action g before s (insert t u) p e = two_told g before s t u (ap head_nodes e) (same_free s _ e)
 told_action g before s (delete t) p e = one_told g before s t [] (ap head_nodes e ∙ sym (append-nil (tree_nodes Given t))) (same_free s _ e)
 told_action g before s (lock t n) p e = one_told g before s t [] (ap head_nodes e ∙ sym (append-nil (tree_nodes Given t))) (same_free s _ e)

@@ -41,11 +41,7 @@ pub fn word_node(sig: &Signature, p: &Process, which: Flaw) -> Option<u64>
 pub(crate) fn told(search: Search) -> Option<u64>
     ensures { result ≡ found_at search }
 {
-    if search.found {
-        Some(search.at)
-    } else {
-        None
-    }
+    if search.found { Some(search.at) } else { None }
 }
 
 // One node more is met.
@@ -167,7 +163,14 @@ fn in_facts(sig: &Signature, which: Flaw, part: Part, fs: &FactList, search: &mu
 }
 
 #[tactic(auto, using(crate::proofs::SearchLemmas::search_laws))]
-fn in_rule(sig: &Signature, which: Flaw, l: &FactList, e: &FactList, r: &FactList, search: &mut Search)
+fn in_rule(
+    sig: &Signature,
+    which: Flaw,
+    l: &FactList,
+    e: &FactList,
+    r: &FactList,
+    search: &mut Search,
+)
     ensures { search.new ≡ after (is_such sig.now which) search.old
         (facts_nodes Pattern l.now ++ (facts_nodes Shown e.now ++ facts_nodes Given r.now)) }
 {

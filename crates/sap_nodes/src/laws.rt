@@ -4,9 +4,9 @@ ghost use Rattle.sap_terms.specs.Signature.{Sig, pairs_alone};
 ghost use Rattle.sap_process.specs.Flaws.{HasFlaw};
 ghost use Rattle.sap_process.specs.Sites.{Site};
 ghost use Rattle.sap_process.specs.declared.flaw.Flaw.{Flaw};
-ghost use Rattle.sap_process.specs.declared.flaw.Flaw.TheVariants.{BadFunction, ReservedVar, ReservedFact, PatternDestructor, Unbound, Rebound, SortClash};
+ghost use Rattle.sap_process.specs.declared.flaw.Flaw.TheVariants.{BadFunction, ReservedVar, ReservedFact, FactClash, PatternDestructor, Unbound, Rebound, SortClash};
 ghost use Rattle.sap_nodes.specs.FlawNodes.{IsNodeOf, IsOfHead};
-ghost use Rattle.sap_nodes.specs.NodeExamples.{SpeaksOf, c_and_x, at_root, destructors, unknown_symbols, two_variables, with_public, two_signs, twice_reserved, reserved_facts, found_again};
+ghost use Rattle.sap_nodes.specs.NodeExamples.{SpeaksOf, c_and_x, at_root, destructors, unknown_symbols, two_variables, with_public, two_signs, twice_reserved, reserved_facts, clashing, found_again};
 
 /// A law: a flaw speaks of one node of a head alone; and where a place has a flaw, there is such a node at its head.
 pub fn nodes_of_flaws()
@@ -19,7 +19,8 @@ pub fn nodes_of_flaws()
 /// A law: of small heads where two nodes could be meant, the one of which the flaw speaks, and that it isn't the other: the
 /// destructor in the pattern, not that on the channel; the first of two symbols that aren't held; the variable that nothing binds, not
 /// one that is bound, nor one that the rule binds as `$x` before; the other sign, not the binder's own; the first of two reserved
-/// variables and, as a rule is written, of two reserved facts; and what a look-up binds, not its key.
+/// variables and, as a rule is written, of two reserved facts; a fact that is stored with another form than before, not one of that
+/// name that is shown; and what a look-up binds, not its key.
 pub fn nodes_by_hand()
     ensures destructor { SpeaksOf c_and_x destructors PatternDestructor 4 }
     ensures not_on_channel { ¬ SpeaksOf c_and_x destructors PatternDestructor 0 }
@@ -35,6 +36,8 @@ pub fn nodes_by_hand()
     ensures not_second_variable { ¬ SpeaksOf [] twice_reserved ReservedVar 3 }
     ensures reserved_fact { SpeaksOf c_and_x reserved_facts ReservedFact 2 }
     ensures not_added_fact { ¬ SpeaksOf c_and_x reserved_facts ReservedFact 4 }
+    ensures fact { SpeaksOf c_and_x clashing FactClash 5 }
+    ensures not_shown_fact { ¬ SpeaksOf c_and_x clashing FactClash 2 }
     ensures binder { IsNodeOf pairs_alone [] (at_root c_and_x found_again) Rebound 1 }
     ensures not_key { ¬ IsNodeOf pairs_alone [] (at_root c_and_x found_again) Rebound 0 }
 {}

@@ -1,5 +1,5 @@
 -- The tests of a node, as the code makes them.
-use Rattle.std.specs.Prelude.{ℕ, Bool, true, false, not, ◌&&◌}
+use Rattle.std.specs.Prelude.{Bool, true, false, not, ◌&&◌}
 use Rattle.sap_terms.specs.Signature.{Sig, arity_of, is_destructor_of}
 use Rattle.sap_terms.specs.TermTests.{has_arity}
 use Rattle.sap_process.specs.code.Tests.{is_constant, is_reserved_var, is_reserved_fact}

@@ -1,8 +1,8 @@
 use Rattle.std.proofs.Common.{[], arith}
 use Rattle.sap_process.specs.Proc.{nil, act}
-use Rattle.sap_process.specs.declared.flaw.Flaw.TheVariants.{BadFunction, ReservedVar, ReservedFact, PatternDestructor, Unbound, Rebound, SortClash}
-use Rattle.sap_nodes.specs.NodeExamples.{c_and_x, at_root, destructors, unknown_symbols, two_variables, with_public, two_signs, twice_reserved, reserved_facts, found_again}
-use Rattle.sap_nodes.proofs.NodesByHand.{no_other, in_the_pattern, unknown, nothing_binds, nothing_binds_in_rule, other_sign, reserved_variable, reserved_fact_shown, bound_again}
+use Rattle.sap_process.specs.declared.flaw.Flaw.TheVariants.{BadFunction, ReservedVar, ReservedFact, FactClash, PatternDestructor, Unbound, Rebound, SortClash}
+use Rattle.sap_nodes.specs.NodeExamples.{c_and_x, at_root, destructors, unknown_symbols, two_variables, with_public, two_signs, twice_reserved, reserved_facts, clashing, found_again}
+use Rattle.sap_nodes.proofs.NodesByHand.{no_other, in_the_pattern, unknown, nothing_binds, nothing_binds_in_rule, other_sign, reserved_variable, reserved_fact_shown, other_form, bound_again}
 use Rattle.sap_nodes.proofs.laws.nodes_by_hand.Goals as goal
 
 pub returns-clause-destructor : goal.returns-clause-destructor
@@ -52,3 +52,9 @@ returns-clause-binder c = bound_again
 
 pub returns-clause-not_key : goal.returns-clause-not_key
 returns-clause-not_key c = no_other (at_root c_and_x found_again) Rebound 1 0 bound_again (λ e. omega (arith, e))
+
+pub returns-clause-fact : goal.returns-clause-fact
+returns-clause-fact c = other_form
+
+pub returns-clause-not_shown_fact : goal.returns-clause-not_shown_fact
+returns-clause-not_shown_fact c = no_other (at_root c_and_x (act clashing nil)) FactClash 5 2 other_form (λ e. omega (arith, e))

@@ -9,5 +9,5 @@ pub loop-f-preserved : goal.loop-f-preserved
 loop-f-preserved c =
     ap (λ a. met_all c.args.binds a (facts_nodes c.args.part (drop (c.loop-f.f-index + 1) c.as_slice-f-items.result.now))) c.in_ok-in_fact.ensures
     ∙ fact_step c.args.binds c.loop-f.trail c.args.part c.as_slice-f-items.result.now c.loop-f.f-index c.f-item.result
-      (item_got c.as_slice-f-items.result.now c.loop-f.f-index c.f-item.result (omega arith) c.f-item.is)
+    (item_got c.as_slice-f-items.result.now c.loop-f.f-index c.f-item.result (omega arith) c.f-item.is)
     ∙ c.loop-f.invariant

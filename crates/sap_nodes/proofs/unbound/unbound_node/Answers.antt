@@ -11,5 +11,5 @@ use Rattle.sap_nodes.proofs.unbound.unbound_node.Goals as goal
 pub returns : goal.returns
 returns c = λ g before s e d.
     subst (IsTold g before s Unbound)
-      (sym (c.told.ensures ∙ ap (λ (a : Trail). found_at a.search) (c.in_ok-in_head.ensures ∙ ap (λ (a : Trail). head_met a (proc c.args.p.now)) c.in_ok-trail.ensures)))
-      (unbound_told g before s (proc c.args.p.now) c.args.scope.now e d)
+    (sym (c.told.ensures ∙ ap (λ (a : Trail). found_at a.search) (c.in_ok-in_head.ensures ∙ ap (λ (a : Trail). head_met a (proc c.args.p.now)) c.in_ok-trail.ensures)))
+    (unbound_told g before s (proc c.args.p.now) c.args.scope.now e d)
