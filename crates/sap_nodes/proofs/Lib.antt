@@ -8,3 +8,4 @@ pub mod NodesByHand
 pub mod SearchLemmas
 pub mod UnboundLemmas
 pub mod UnboundTold
+pub mod ReboundTold

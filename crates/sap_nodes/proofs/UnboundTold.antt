@@ -77,11 +77,11 @@ front_same (z ∷ zs) ys zero x e j l = absurd (omega (arith, l))
 front_same (z ∷ zs) ys (suc k) x e zero l = refl
 front_same (z ∷ zs) ys (suc k) x e (suc j) l = front_same zs ys k x e j (omega (arith, l))
 
-back_got : (xs ys : List Node) (k : ℕ) (x : Node) → slice_get ys k ≡ Some x → (i : ℕ) × (i ≡ length xs + k) × (slice_get (xs ++ ys) i ≡ Some x)
+pub back_got : (xs ys : List Node) (k : ℕ) (x : Node) → slice_get ys k ≡ Some x → (i : ℕ) × (i ≡ length xs + k) × (slice_get (xs ++ ys) i ≡ Some x)
 back_got [] ys k x e = (k, omega arith, e)
 back_got (z ∷ zs) ys k x e = let later = back_got zs ys k x e in let is = later.1 in (suc later.0, omega (arith, is), later.2)
 
-got_cases : (xs ys : List Node) (i : ℕ) (x : Node) → slice_get (xs ++ ys) i ≡ Some x → Contains xs x ⊎ ((j : ℕ) × (i ≡ length xs + j) × (slice_get ys j ≡ Some x))
+pub got_cases : (xs ys : List Node) (i : ℕ) (x : Node) → slice_get (xs ++ ys) i ≡ Some x → Contains xs x ⊎ ((j : ℕ) × (i ≡ length xs + j) × (slice_get ys j ≡ Some x))
 got_cases [] ys i x e = inr (i, omega arith, e)
 got_cases (z ∷ zs) ys zero x e = inl (subst (λ n. Contains (z ∷ zs) n) (same z x e) (first_item z zs)) where
   same : (m n : Node) → Some m ≡ Some n → m ≡ n

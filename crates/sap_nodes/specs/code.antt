@@ -2,3 +2,4 @@
 pub mod NodeTests
 pub mod Searches
 pub mod Unbound
+pub mod Rebound

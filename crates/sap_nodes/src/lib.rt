@@ -1,11 +1,13 @@
 //! Of which node of a head a flaw speaks.
 #![tactic(auto)]
 
+mod bound;
 mod finding;
 mod laws;
 mod part;
 mod unbound;
 
+pub use bound::rebound_node;
 pub use finding::word_node;
 pub use laws::{nodes_by_hand, nodes_of_flaws};
 pub use part::Part;
