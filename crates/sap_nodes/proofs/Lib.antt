@@ -9,3 +9,4 @@ pub mod SearchLemmas
 pub mod UnboundLemmas
 pub mod UnboundTold
 pub mod ReboundTold
+pub mod SignedTold

@@ -20,29 +20,29 @@ use Rattle.sap_terms.proofs.PlainLaws.Trees.{item_le-trees_count}
 use Rattle.sap_process.specs.Sites.{var_names}
 use Rattle.sap_nodes.specs.HeadNodes.{Node, binder, variable, public, fresh, symbol, fact, tree_nodes, trees_nodes, fact_nodes, facts_nodes}
 use Rattle.sap_nodes.specs.code.Searches.{most, visited}
-use Rattle.sap_nodes.specs.code.Unbound.{is_bound, met, met_all}
+use Rattle.sap_nodes.specs.code.Trails.{is_bound, is_free, met, met_all}
 use Rattle.sap_nodes.specs.declared.finding.Search.{Search}
 use Rattle.sap_nodes.specs.declared.part.Part.{Part}
-use Rattle.sap_nodes.specs.declared.unbound.Binds.{Binds}
-use Rattle.sap_nodes.specs.declared.unbound.Binds.TheVariants.{Each, Public, Nothing}
-use Rattle.sap_nodes.specs.declared.unbound.Trail.{Trail}
+use Rattle.sap_nodes.specs.declared.trail.How.{How}
+use Rattle.sap_nodes.specs.declared.trail.How.TheVariants.{Taken, Ruled, Used}
+use Rattle.sap_nodes.specs.declared.trail.Trail.{Trail}
 use Rattle.sap_nodes.proofs.FlawsAtNodes.{filtered}
 use Rattle.sap_nodes.proofs.HeadMembers.{none_of}
 
-pub met_append : (b : Binds) (a : Trail) (ms ns : List Node) → met_all b a (ms ++ ns) ≡ met_all b (met_all b a ms) ns
+pub met_append : (b : How) (a : Trail) (ms ns : List Node) → met_all b a (ms ++ ns) ≡ met_all b (met_all b a ms) ns
 met_append b a [] ns = refl
 met_append b a (m ∷ ms) ns = met_append b (met b a m) ms ns
 
 pub ruleset met_laws = (met_append, list_of-trees_of, item_le-trees_count)
 
 -- one term more, and one fact more
-pub term_step : (b : Binds) (a : Trail) (part : Part) (ts : List Tree) (k : ℕ) (t : Tree) → slice_get ts k ≡ Some t
+pub term_step : (b : How) (a : Trail) (part : Part) (ts : List Tree) (k : ℕ) (t : Tree) → slice_get ts k ≡ Some t
     → met_all b (met_all b a (tree_nodes part t)) (trees_nodes part (trees_of (drop (k + 1) ts))) ≡ met_all b a (trees_nodes part (trees_of (drop k ts)))
 term_step b a part ts k t e =
     sym (met_append b a (tree_nodes part t) (trees_nodes part (trees_of (drop (k + 1) ts))))
     ∙ sym (ap (λ us. met_all b a (trees_nodes part (trees_of us))) (drop_got ts k t e))
 
-pub fact_step : (b : Binds) (a : Trail) (part : Part) (fs : List Fact) (k : ℕ) (f : Fact) → slice_get fs k ≡ Some f
+pub fact_step : (b : How) (a : Trail) (part : Part) (fs : List Fact) (k : ℕ) (f : Fact) → slice_get fs k ≡ Some f
     → met_all b (met_all b a (fact_nodes part f)) (facts_nodes part (drop (k + 1) fs)) ≡ met_all b a (facts_nodes part (drop k fs))
 fact_step b a part fs k f e =
     sym (met_append b a (fact_nodes part f) (facts_nodes part (drop (k + 1) fs))) ∙ sym (ap (λ hs. met_all b a (facts_nodes part hs)) (drop_got fs k f e))
@@ -84,15 +84,15 @@ pub record Miss (free : List Var) (r : Search) : Type 0 where
 one_of : (v u : Var) → Some (variable v) ≡ Some (variable u) → v ≡ u
 one_of v u e = cc
 
-filter_passes : (p : Var → Bool) (xs : List Var) (x : Var) → Contains (filter p xs) x → p x ≡ true
-filter_passes p [] x c = absurd (none_of x c)
-filter_passes p (y ∷ ys) x c = by (p y) refl c (filter_passes p ys x) where
+pub passed : (p : Var → Bool) (xs : List Var) (x : Var) → Contains (filter p xs) x → p x ≡ true
+passed p [] x c = absurd (none_of x c)
+passed p (y ∷ ys) x c = by (p y) refl c (passed p ys x) where
   by : (b : Bool) → p y ≡ b → Contains (cond b (y ∷ filter p ys) (filter p ys)) x → (Contains (filter p ys) x → p x ≡ true) → p x ≡ true
   by false e k later = later k
   by true e k later = elim (cons_cases y (filter p ys) x k) as (λ _. p x ≡ true) [ inl d ↦ subst (λ z. p z ≡ true) d e | inr m ↦ later m ]
 
 -- where one is found, nothing changes any more
-stays : (b : Binds) (known : List Var) (at : ℕ) (ns : List Node)
+stays : (b : How) (known : List Var) (at : ℕ) (ns : List Node)
     → (met_all b (record { known = known; search = record { at = at; found = true } }) ns).search ≡ record { at = at; found = true }
 stays b known at [] = refl
 stays b known at (variable v ∷ ns) = stays b (if is_bound b v known then known ++ v ∷ [] else known) at ns
@@ -135,40 +135,56 @@ past free n ns at r other (inl h) = inl (record {
 abbrev pub unknown : List Var → List Var → List Var
 unknown known vs = filter (λ (v : Var). not (is_known (var_names known) v.name)) vs
 
-abbrev pub searched : Binds → List Var → ℕ → List Node → Search
+abbrev pub searched : How → List Var → ℕ → List Node → Search
 searched b known at ns = (met_all b (record { known = known; search = record { at = at; found = false } }) ns).search
 
-pub outcome_used : (known : List Var) (ns : List Node) (at : ℕ) → at ≤ most
-    → Hit (unknown known (flat_map vars_of ns)) ns at (searched Nothing known at ns) ⊎ Miss (unknown known (flat_map vars_of ns)) (searched Nothing known at ns)
-outcome_used known [] at l = inr (record { nothing = refl; found = refl })
-outcome_used known (binder v ∷ ns) at l =
-    past (unknown known (flat_map vars_of ns)) (binder v) ns at (searched Nothing known (min (at + 1) most) ns) (λ u e c. cc) (outcome_used known ns (min (at + 1) most) (omega arith))
-outcome_used known (public n ∷ ns) at l =
-    past (unknown known (flat_map vars_of ns)) (public n) ns at (searched Nothing known (min (at + 1) most) ns) (λ u e c. cc) (outcome_used known ns (min (at + 1) most) (omega arith))
-outcome_used known (fresh k ∷ ns) at l =
-    past (unknown known (flat_map vars_of ns)) (fresh k) ns at (searched Nothing known (min (at + 1) most) ns) (λ u e c. cc) (outcome_used known ns (min (at + 1) most) (omega arith))
-outcome_used known (symbol a f k ∷ ns) at l =
-    past (unknown known (flat_map vars_of ns)) (symbol a f k) ns at (searched Nothing known (min (at + 1) most) ns) (λ u e c. cc) (outcome_used known ns (min (at + 1) most) (omega arith))
-outcome_used known (fact a f ∷ ns) at l =
-    past (unknown known (flat_map vars_of ns)) (fact a f) ns at (searched Nothing known (min (at + 1) most) ns) (λ u e c. cc) (outcome_used known ns (min (at + 1) most) (omega arith))
-outcome_used known (variable v ∷ ns) at l = by (is_known (var_names known) v.name) refl (outcome_used known ns (min (at + 1) most) (omega arith)) where
-  known_one : is_known (var_names known) v.name ≡ true → (u : Var) → Some (variable v) ≡ Some (variable u) → Contains (unknown known (flat_map vars_of ns)) u → ⊥
-  known_one e u s c =
-      let passes = filter_passes (λ (w : Var). not (is_known (var_names known) w.name)) (flat_map vars_of ns) u c in
-      let same : is_known (var_names known) u.name ≡ true = subst (λ (w : Var). is_known (var_names known) w.name ≡ true) (one_of v u s) e in
-      cc
+-- those that are looked for
+abbrev pub freed : How → List Var → List Var → List Var
+freed how known vs = filter (λ (v : Var). is_free how v known) vs
 
-  by : (b : Bool) → is_known (var_names known) v.name ≡ b
-      → Hit (unknown known (flat_map vars_of ns)) ns (min (at + 1) most) (searched Nothing known (min (at + 1) most) ns)
-      ⊎ Miss (unknown known (flat_map vars_of ns)) (searched Nothing known (min (at + 1) most) ns)
-      → Hit (cond (not b) (v ∷ unknown known (flat_map vars_of ns)) (unknown known (flat_map vars_of ns))) (variable v ∷ ns) at
-      (met_all Nothing (record { known = known; search = visited (not b) (record { at = at; found = false }) }) ns).search
-      ⊎ Miss (cond (not b) (v ∷ unknown known (flat_map vars_of ns)) (unknown known (flat_map vars_of ns)))
-      (met_all Nothing (record { known = known; search = visited (not b) (record { at = at; found = false }) }) ns).search
-  by true e later = past (unknown known (flat_map vars_of ns)) (variable v) ns at (searched Nothing known (min (at + 1) most) ns) (known_one e) later
-  by false e later =
-      inl (subst (Hit (v ∷ unknown known (flat_map vars_of ns)) (variable v ∷ ns) at) (sym (stays Nothing known at ns))
-      (here (unknown known (flat_map vars_of ns)) v ns at l))
+-- where no more get known
+pub outcome_kept : (how : How) (known : List Var) → ((v : Var) → is_bound how v known ≡ false) → (ns : List Node) (at : ℕ) → at ≤ most
+    → Hit (freed how known (flat_map vars_of ns)) ns at (searched how known at ns) ⊎ Miss (freed how known (flat_map vars_of ns)) (searched how known at ns)
+outcome_kept how known kept [] at l = inr (record { nothing = refl; found = refl })
+outcome_kept how known kept (binder v ∷ ns) at l =
+    past (freed how known (flat_map vars_of ns)) (binder v) ns at (searched how known (min (at + 1) most) ns) (λ u e c. cc) (outcome_kept how known kept ns (min (at + 1) most) (omega arith))
+outcome_kept how known kept (public n ∷ ns) at l =
+    past (freed how known (flat_map vars_of ns)) (public n) ns at (searched how known (min (at + 1) most) ns) (λ u e c. cc) (outcome_kept how known kept ns (min (at + 1) most) (omega arith))
+outcome_kept how known kept (fresh k ∷ ns) at l =
+    past (freed how known (flat_map vars_of ns)) (fresh k) ns at (searched how known (min (at + 1) most) ns) (λ u e c. cc) (outcome_kept how known kept ns (min (at + 1) most) (omega arith))
+outcome_kept how known kept (symbol a f k ∷ ns) at l =
+    past (freed how known (flat_map vars_of ns)) (symbol a f k) ns at (searched how known (min (at + 1) most) ns) (λ u e c. cc) (outcome_kept how known kept ns (min (at + 1) most) (omega arith))
+outcome_kept how known kept (fact a f ∷ ns) at l =
+    past (freed how known (flat_map vars_of ns)) (fact a f) ns at (searched how known (min (at + 1) most) ns) (λ u e c. cc) (outcome_kept how known kept ns (min (at + 1) most) (omega arith))
+outcome_kept how known kept (variable v ∷ ns) at l =
+    subst (λ (d : Bool).
+      Hit (freed how known (v ∷ flat_map vars_of ns)) (variable v ∷ ns) at
+        (met_all how (record { known = if d then known ++ v ∷ [] else known; search = visited (is_free how v known) (record { at = at; found = false }) }) ns).search
+      ⊎ Miss (freed how known (v ∷ flat_map vars_of ns))
+        (met_all how (record { known = if d then known ++ v ∷ [] else known; search = visited (is_free how v known) (record { at = at; found = false }) }) ns).search)
+      (sym (kept v)) (by (is_free how v known) refl (outcome_kept how known kept ns (min (at + 1) most) (omega arith)))
+  where
+    not_free : is_free how v known ≡ false → (u : Var) → Some (variable v) ≡ Some (variable u) → Contains (freed how known (flat_map vars_of ns)) u → ⊥
+    not_free e u s c =
+        let passes = passed (λ (w : Var). is_free how w known) (flat_map vars_of ns) u c in
+        let same : is_free how u known ≡ false = subst (λ (w : Var). is_free how w known ≡ false) (one_of v u s) e in
+        cc
+
+    by : (b : Bool) → is_free how v known ≡ b
+        → Hit (freed how known (flat_map vars_of ns)) ns (min (at + 1) most) (searched how known (min (at + 1) most) ns)
+        ⊎ Miss (freed how known (flat_map vars_of ns)) (searched how known (min (at + 1) most) ns)
+        → Hit (cond b (v ∷ freed how known (flat_map vars_of ns)) (freed how known (flat_map vars_of ns))) (variable v ∷ ns) at
+          (met_all how (record { known = known; search = visited b (record { at = at; found = false }) }) ns).search
+        ⊎ Miss (cond b (v ∷ freed how known (flat_map vars_of ns)) (freed how known (flat_map vars_of ns)))
+          (met_all how (record { known = known; search = visited b (record { at = at; found = false }) }) ns).search
+    by false e later = past (freed how known (flat_map vars_of ns)) (variable v) ns at (searched how known (min (at + 1) most) ns) (not_free e) later
+    by true e later =
+        inl (subst (Hit (v ∷ freed how known (flat_map vars_of ns)) (variable v ∷ ns) at) (sym (stays how known at ns))
+          (here (freed how known (flat_map vars_of ns)) v ns at l))
+
+pub outcome_used : (known : List Var) (ns : List Node) (at : ℕ) → at ≤ most
+    → Hit (unknown known (flat_map vars_of ns)) ns at (searched Used known at ns) ⊎ Miss (unknown known (flat_map vars_of ns)) (searched Used known at ns)
+outcome_used known ns at l = outcome_kept Used known (λ v. refl) ns at l
 
 -- first occurrences of names that are not known, but for those that are written `$x`
 abbrev pub unsigned_new : List (List ℕ) → List Var → List Var
@@ -200,28 +216,28 @@ names_push [] v = refl
 names_push (w ∷ ws) v = ap (λ ns. w.name ∷ ns) (names_push ws v)
 
 pub outcome_rule : (known : List Var) (ns : List Node) (at : ℕ) → at ≤ most
-    → Hit (unsigned_new (var_names known) (flat_map vars_of ns)) ns at (searched Public known at ns)
-    ⊎ Miss (unsigned_new (var_names known) (flat_map vars_of ns)) (searched Public known at ns)
+    → Hit (unsigned_new (var_names known) (flat_map vars_of ns)) ns at (searched Ruled known at ns)
+    ⊎ Miss (unsigned_new (var_names known) (flat_map vars_of ns)) (searched Ruled known at ns)
 outcome_rule known [] at l = inr (record { nothing = refl; found = refl })
 outcome_rule known (binder v ∷ ns) at l =
-    past (unsigned_new (var_names known) (flat_map vars_of ns)) (binder v) ns at (searched Public known (min (at + 1) most) ns) (λ u e c. cc)
+    past (unsigned_new (var_names known) (flat_map vars_of ns)) (binder v) ns at (searched Ruled known (min (at + 1) most) ns) (λ u e c. cc)
     (outcome_rule known ns (min (at + 1) most) (omega arith))
 outcome_rule known (public n ∷ ns) at l =
-    past (unsigned_new (var_names known) (flat_map vars_of ns)) (public n) ns at (searched Public known (min (at + 1) most) ns) (λ u e c. cc)
+    past (unsigned_new (var_names known) (flat_map vars_of ns)) (public n) ns at (searched Ruled known (min (at + 1) most) ns) (λ u e c. cc)
     (outcome_rule known ns (min (at + 1) most) (omega arith))
 outcome_rule known (fresh k ∷ ns) at l =
-    past (unsigned_new (var_names known) (flat_map vars_of ns)) (fresh k) ns at (searched Public known (min (at + 1) most) ns) (λ u e c. cc)
+    past (unsigned_new (var_names known) (flat_map vars_of ns)) (fresh k) ns at (searched Ruled known (min (at + 1) most) ns) (λ u e c. cc)
     (outcome_rule known ns (min (at + 1) most) (omega arith))
 outcome_rule known (symbol a f k ∷ ns) at l =
-    past (unsigned_new (var_names known) (flat_map vars_of ns)) (symbol a f k) ns at (searched Public known (min (at + 1) most) ns) (λ u e c. cc)
+    past (unsigned_new (var_names known) (flat_map vars_of ns)) (symbol a f k) ns at (searched Ruled known (min (at + 1) most) ns) (λ u e c. cc)
     (outcome_rule known ns (min (at + 1) most) (omega arith))
 outcome_rule known (fact a f ∷ ns) at l =
-    past (unsigned_new (var_names known) (flat_map vars_of ns)) (fact a f) ns at (searched Public known (min (at + 1) most) ns) (λ u e c. cc)
+    past (unsigned_new (var_names known) (flat_map vars_of ns)) (fact a f) ns at (searched Ruled known (min (at + 1) most) ns) (λ u e c. cc)
     (outcome_rule known ns (min (at + 1) most) (omega arith))
 outcome_rule known (variable v ∷ ns) at l =
     by (is_known (var_names known) v.name) refl (outcome_rule known ns (min (at + 1) most) (omega arith))
-    (subst (λ (names : List (List ℕ)). Hit (unsigned_new names (flat_map vars_of ns)) ns (min (at + 1) most) (searched Public (known ++ v ∷ []) (min (at + 1) most) ns)
-    ⊎ Miss (unsigned_new names (flat_map vars_of ns)) (searched Public (known ++ v ∷ []) (min (at + 1) most) ns)) (names_push known v)
+    (subst (λ (names : List (List ℕ)). Hit (unsigned_new names (flat_map vars_of ns)) ns (min (at + 1) most) (searched Ruled (known ++ v ∷ []) (min (at + 1) most) ns)
+    ⊎ Miss (unsigned_new names (flat_map vars_of ns)) (searched Ruled (known ++ v ∷ []) (min (at + 1) most) ns)) (names_push known v)
     (outcome_rule (known ++ v ∷ []) ns (min (at + 1) most) (omega arith)))
   where
     known_one : is_known (var_names known) v.name ≡ true → (u : Var) → Some (variable v) ≡ Some (variable u)
@@ -235,42 +251,42 @@ outcome_rule known (variable v ∷ ns) at l =
     signed_one : same_sort v.sort Pub ≡ true → (u : Var) → Some (variable v) ≡ Some (variable u)
         → Contains (unsigned_new (var_names known ++ v.name ∷ []) (flat_map vars_of ns)) u → ⊥
     signed_one e u s c =
-        let passes = filter_passes (λ (w : Var). not (same_sort w.sort Pub)) (new_vars (var_names known ++ v.name ∷ []) (flat_map vars_of ns)) u c in
+        let passes = passed (λ (w : Var). not (same_sort w.sort Pub)) (new_vars (var_names known ++ v.name ∷ []) (flat_map vars_of ns)) u c in
         let same : same_sort u.sort Pub ≡ true = subst (λ (w : Var). same_sort w.sort Pub ≡ true) (one_of v u s) e in
         cc
 
     signed : (c : Bool) → same_sort v.sort Pub ≡ c
-        → Hit (unsigned_new (var_names known ++ v.name ∷ []) (flat_map vars_of ns)) ns (min (at + 1) most) (searched Public (known ++ v ∷ []) (min (at + 1) most) ns)
-        ⊎ Miss (unsigned_new (var_names known ++ v.name ∷ []) (flat_map vars_of ns)) (searched Public (known ++ v ∷ []) (min (at + 1) most) ns)
+        → Hit (unsigned_new (var_names known ++ v.name ∷ []) (flat_map vars_of ns)) ns (min (at + 1) most) (searched Ruled (known ++ v ∷ []) (min (at + 1) most) ns)
+        ⊎ Miss (unsigned_new (var_names known ++ v.name ∷ []) (flat_map vars_of ns)) (searched Ruled (known ++ v ∷ []) (min (at + 1) most) ns)
         → Hit (cond (not c) (v ∷ unsigned_new (var_names known ++ v.name ∷ []) (flat_map vars_of ns)) (unsigned_new (var_names known ++ v.name ∷ []) (flat_map vars_of ns)))
         (variable v ∷ ns) at
-        (met_all Public (record { known = if c then known ++ v ∷ [] else known; search = visited (not c) (record { at = at; found = false }) }) ns).search
+        (met_all Ruled (record { known = if c then known ++ v ∷ [] else known; search = visited (not c) (record { at = at; found = false }) }) ns).search
         ⊎ Miss (cond (not c) (v ∷ unsigned_new (var_names known ++ v.name ∷ []) (flat_map vars_of ns)) (unsigned_new (var_names known ++ v.name ∷ []) (flat_map vars_of ns)))
-        (met_all Public (record { known = if c then known ++ v ∷ [] else known; search = visited (not c) (record { at = at; found = false }) }) ns).search
+        (met_all Ruled (record { known = if c then known ++ v ∷ [] else known; search = visited (not c) (record { at = at; found = false }) }) ns).search
     signed true e pushed =
-        past (unsigned_new (var_names known ++ v.name ∷ []) (flat_map vars_of ns)) (variable v) ns at (searched Public (known ++ v ∷ []) (min (at + 1) most) ns) (signed_one e) pushed
+        past (unsigned_new (var_names known ++ v.name ∷ []) (flat_map vars_of ns)) (variable v) ns at (searched Ruled (known ++ v ∷ []) (min (at + 1) most) ns) (signed_one e) pushed
     signed false e pushed =
-        inl (subst (Hit (v ∷ unsigned_new (var_names known ++ v.name ∷ []) (flat_map vars_of ns)) (variable v ∷ ns) at) (sym (stays Public known at ns))
+        inl (subst (Hit (v ∷ unsigned_new (var_names known ++ v.name ∷ []) (flat_map vars_of ns)) (variable v ∷ ns) at) (sym (stays Ruled known at ns))
         (here (unsigned_new (var_names known ++ v.name ∷ []) (flat_map vars_of ns)) v ns at l))
 
     by : (b : Bool) → is_known (var_names known) v.name ≡ b
-        → Hit (unsigned_new (var_names known) (flat_map vars_of ns)) ns (min (at + 1) most) (searched Public known (min (at + 1) most) ns)
-        ⊎ Miss (unsigned_new (var_names known) (flat_map vars_of ns)) (searched Public known (min (at + 1) most) ns)
-        → Hit (unsigned_new (var_names known ++ v.name ∷ []) (flat_map vars_of ns)) ns (min (at + 1) most) (searched Public (known ++ v ∷ []) (min (at + 1) most) ns)
-        ⊎ Miss (unsigned_new (var_names known ++ v.name ∷ []) (flat_map vars_of ns)) (searched Public (known ++ v ∷ []) (min (at + 1) most) ns)
+        → Hit (unsigned_new (var_names known) (flat_map vars_of ns)) ns (min (at + 1) most) (searched Ruled known (min (at + 1) most) ns)
+        ⊎ Miss (unsigned_new (var_names known) (flat_map vars_of ns)) (searched Ruled known (min (at + 1) most) ns)
+        → Hit (unsigned_new (var_names known ++ v.name ∷ []) (flat_map vars_of ns)) ns (min (at + 1) most) (searched Ruled (known ++ v ∷ []) (min (at + 1) most) ns)
+        ⊎ Miss (unsigned_new (var_names known ++ v.name ∷ []) (flat_map vars_of ns)) (searched Ruled (known ++ v ∷ []) (min (at + 1) most) ns)
         → Hit (filter (λ (w : Var). not (same_sort w.sort Pub)) (if b then new_vars (var_names known) (flat_map vars_of ns) else v ∷ new_vars (var_names known ++ v.name ∷ []) (flat_map vars_of ns)))
         (variable v ∷ ns) at
-        (met_all Public (record {
+        (met_all Ruled (record {
           known = if not b && same_sort v.sort Pub then known ++ v ∷ [] else known;
           search = visited (not b && not (same_sort v.sort Pub)) (record { at = at; found = false });
         }) ns).search
         ⊎ Miss (filter (λ (w : Var). not (same_sort w.sort Pub)) (if b then new_vars (var_names known) (flat_map vars_of ns) else v ∷ new_vars (var_names known ++ v.name ∷ []) (flat_map vars_of ns)))
-        (met_all Public (record {
+        (met_all Ruled (record {
           known = if not b && same_sort v.sort Pub then known ++ v ∷ [] else known;
           search = visited (not b && not (same_sort v.sort Pub)) (record { at = at; found = false });
         }) ns).search
     by true e later pushed =
-        past (unsigned_new (var_names known) (flat_map vars_of ns)) (variable v) ns at (searched Public known (min (at + 1) most) ns) (known_one e) later
+        past (unsigned_new (var_names known) (flat_map vars_of ns)) (variable v) ns at (searched Ruled known (min (at + 1) most) ns) (known_one e) later
     by false e later pushed = signed (same_sort v.sort Pub) refl pushed
 
 abbrev pub trail_of : List Var → ℕ → Trail
@@ -290,7 +306,7 @@ next known ns at =
 
 -- each variable of a left side is known behind it
 pub behind_left : (known : List Var) (ns : List Node) (at : ℕ) → at ≤ most
-    → met_all Each (trail_of known at) ns ≡ trail_of (known ++ flat_map vars_of ns) (min (at + length ns) most)
+    → met_all Taken (trail_of known at) ns ≡ trail_of (known ++ flat_map vars_of ns) (min (at + length ns) most)
 behind_left known [] at l = trail_is known (known ++ []) at (min (at + 0) most) (sym (append-nil known)) (omega arith)
 behind_left known (variable v ∷ ns) at l =
     behind_left (known ++ v ∷ []) ns (min (at + 1) most) (omega arith)

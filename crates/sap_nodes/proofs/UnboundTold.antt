@@ -21,11 +21,11 @@ use Rattle.sap_process.specs.declared.flaw.Flaw.TheVariants.{Unbound}
 use Rattle.sap_nodes.specs.HeadNodes.{Node, binder, variable, public, fresh, symbol, fact, tree_nodes, trees_nodes, fact_nodes, facts_nodes, head_nodes}
 use Rattle.sap_nodes.specs.FlawNodes.{IsUnboundNode, IsFlawedAt, IsTold}
 use Rattle.sap_nodes.specs.code.Searches.{most, at_first, found_at}
-use Rattle.sap_nodes.specs.code.Unbound.{met_all, head_met}
+use Rattle.sap_nodes.specs.code.Trails.{met_all, head_met}
 use Rattle.sap_nodes.specs.declared.finding.Search.{Search}
 use Rattle.sap_nodes.specs.declared.part.Part.{Part}
 use Rattle.sap_nodes.specs.declared.part.Part.TheVariants.{Pattern, Shown, Given}
-use Rattle.sap_nodes.specs.declared.unbound.Binds.TheVariants.{Each, Public, Nothing}
+use Rattle.sap_nodes.specs.declared.trail.How.TheVariants.{Taken, Ruled, Used}
 use Rattle.sap_nodes.proofs.HeadMembers.{none_of}
 use Rattle.sap_nodes.proofs.UnboundLemmas.{vars_of, Hit, Miss, unknown, unsigned_new, searched, new_known_not, trail_of, outcome_used, outcome_rule, behind_left}
 
@@ -66,12 +66,12 @@ hit g before s free r k v e stands is first found counted =
         first j u.0 l (h.stands ∙ ap Some u.1) (subst (λ vs. Contains vs u.0) e u.2)
 
 -- items of the front of a list, and behind it
-front_got : (xs ys : List Node) (k : ℕ) (x : Node) → slice_get xs k ≡ Some x → slice_get (xs ++ ys) k ≡ Some x
+pub front_got : (xs ys : List Node) (k : ℕ) (x : Node) → slice_get xs k ≡ Some x → slice_get (xs ++ ys) k ≡ Some x
 front_got [] ys k x e = cc
 front_got (z ∷ zs) ys zero x e = e
 front_got (z ∷ zs) ys (suc k) x e = front_got zs ys k x e
 
-front_same : (xs ys : List Node) (k : ℕ) (x : Node) → slice_get xs k ≡ Some x → (j : ℕ) → j < k → slice_get (xs ++ ys) j ≡ slice_get xs j
+pub front_same : (xs ys : List Node) (k : ℕ) (x : Node) → slice_get xs k ≡ Some x → (j : ℕ) → j < k → slice_get (xs ++ ys) j ≡ slice_get xs j
 front_same [] ys k x e j l = cc
 front_same (z ∷ zs) ys zero x e j l = absurd (omega (arith, l))
 front_same (z ∷ zs) ys (suc k) x e zero l = refl
@@ -93,19 +93,19 @@ got_cases (z ∷ zs) ys (suc i) x e = by (got_cases zs ys i x e) where
 
 -- of what is evaluated before anything is bound
 told_used : (g : Sig) (before : List Site) (s : Site) (used rest : List Node) → head_nodes s.body ≡ used ++ rest
-    → unbound s.above.scope s.body ≡ unknown s.above.scope (flat_map vars_of used) → IsTold g before s Unbound (found_at (searched Nothing s.above.scope 0 used))
+    → unbound s.above.scope s.body ≡ unknown s.above.scope (flat_map vars_of used) → IsTold g before s Unbound (found_at (searched Used s.above.scope 0 used))
 told_used g before s used rest e free = by (outcome_used s.above.scope used 0 (omega arith)) where
-  by : Hit (unknown s.above.scope (flat_map vars_of used)) used 0 (searched Nothing s.above.scope 0 used)
-      ⊎ Miss (unknown s.above.scope (flat_map vars_of used)) (searched Nothing s.above.scope 0 used)
-      → IsTold g before s Unbound (found_at (searched Nothing s.above.scope 0 used))
-  by (inr m) = missed g before s (unknown s.above.scope (flat_map vars_of used)) (searched Nothing s.above.scope 0 used) free m
-  by (inl h) = hit g before s (unknown s.above.scope (flat_map vars_of used)) (searched Nothing s.above.scope 0 used) h.place h.var free
+  by : Hit (unknown s.above.scope (flat_map vars_of used)) used 0 (searched Used s.above.scope 0 used)
+      ⊎ Miss (unknown s.above.scope (flat_map vars_of used)) (searched Used s.above.scope 0 used)
+      → IsTold g before s Unbound (found_at (searched Used s.above.scope 0 used))
+  by (inr m) = missed g before s (unknown s.above.scope (flat_map vars_of used)) (searched Used s.above.scope 0 used) free m
+  by (inl h) = hit g before s (unknown s.above.scope (flat_map vars_of used)) (searched Used s.above.scope 0 used) h.place h.var free
       (ap (λ ns. slice_get ns h.place) e ∙ front_got used rest h.place (variable h.var) h.stands) h.is
       (λ j u l k c. h.first j u l (sym (front_same used rest h.place (variable h.var) h.stands j l) ∙ sym (ap (λ ns. slice_get ns j) e) ∙ k) c)
       h.found (let n = h.counted in omega (arith, n))
 
 -- the variable of a node is one of theirs
-var_in : (ns : List Node) (v : Var) → Contains ns (variable v) → Contains (flat_map vars_of ns) v
+pub var_in : (ns : List Node) (v : Var) → Contains ns (variable v) → Contains (flat_map vars_of ns) v
 var_in [] v c = absurd (none_of (variable v) c)
 var_in (n ∷ ns) v c = by (cons_cases n ns (variable v) c) (var_in ns v) where
   by : (n ≡ variable v) ⊎ Contains ns (variable v) → (Contains ns (variable v) → Contains (flat_map vars_of ns) v) → Contains (vars_of n ++ flat_map vars_of ns) v
@@ -115,25 +115,25 @@ var_in (n ∷ ns) v c = by (cons_cases n ns (variable v) c) (var_in ns v) where
 -- of the other sides of an embedded rule
 told_rule : (g : Sig) (before : List Site) (s : Site) (left right : List Node) → head_nodes s.body ≡ left ++ right
     → unbound s.above.scope s.body ≡ unsigned_new (var_names (s.above.scope ++ flat_map vars_of left)) (flat_map vars_of right)
-    → IsTold g before s Unbound (found_at (searched Public (s.above.scope ++ flat_map vars_of left) (min (0 + length left) most) right))
+    → IsTold g before s Unbound (found_at (searched Ruled (s.above.scope ++ flat_map vars_of left) (min (0 + length left) most) right))
 told_rule g before s left right e free = by (outcome_rule (s.above.scope ++ flat_map vars_of left) right (min (0 + length left) most) (omega arith)) where
   known : (u : Var) → Contains left (variable u) → Contains (unsigned_new (var_names (s.above.scope ++ flat_map vars_of left)) (flat_map vars_of right)) u → ⊥
   known u l c = new_known_not (s.above.scope ++ flat_map vars_of left) (flat_map vars_of right) u
       (Contains-append_right s.above.scope (flat_map vars_of left) u (var_in left u l)) c
 
   by : Hit (unsigned_new (var_names (s.above.scope ++ flat_map vars_of left)) (flat_map vars_of right)) right (min (0 + length left) most)
-      (searched Public (s.above.scope ++ flat_map vars_of left) (min (0 + length left) most) right)
+      (searched Ruled (s.above.scope ++ flat_map vars_of left) (min (0 + length left) most) right)
       ⊎ Miss (unsigned_new (var_names (s.above.scope ++ flat_map vars_of left)) (flat_map vars_of right))
-      (searched Public (s.above.scope ++ flat_map vars_of left) (min (0 + length left) most) right)
-      → IsTold g before s Unbound (found_at (searched Public (s.above.scope ++ flat_map vars_of left) (min (0 + length left) most) right))
+      (searched Ruled (s.above.scope ++ flat_map vars_of left) (min (0 + length left) most) right)
+      → IsTold g before s Unbound (found_at (searched Ruled (s.above.scope ++ flat_map vars_of left) (min (0 + length left) most) right))
   by (inr m) = missed g before s (unsigned_new (var_names (s.above.scope ++ flat_map vars_of left)) (flat_map vars_of right))
-      (searched Public (s.above.scope ++ flat_map vars_of left) (min (0 + length left) most) right) free m
+      (searched Ruled (s.above.scope ++ flat_map vars_of left) (min (0 + length left) most) right) free m
   by (inl h) =
       let at = back_got left right h.place (variable h.var) h.stands in
       let is = at.1 in
       let n = h.counted in
       hit g before s (unsigned_new (var_names (s.above.scope ++ flat_map vars_of left)) (flat_map vars_of right))
-      (searched Public (s.above.scope ++ flat_map vars_of left) (min (0 + length left) most) right) at.0 h.var free
+      (searched Ruled (s.above.scope ++ flat_map vars_of left) (min (0 + length left) most) right) at.0 h.var free
       (ap (λ ns. slice_get ns at.0) e ∙ at.2) h.is
       (earlier h.place at.0 is h.first) h.found (omega (arith, is, n))
     where
@@ -150,7 +150,7 @@ told_rule g before s left right e free = by (outcome_rule (s.above.scope ++ flat
 -- the variables of nodes
 
 mutual
-  tree_variables : (a : Part) (t : Tree) → flat_map vars_of (tree_nodes a t) ≡ tree_vars t
+  pub tree_variables : (a : Part) (t : Tree) → flat_map vars_of (tree_nodes a t) ≡ tree_vars t
   tree_variables a (tree.variable v) = refl
   tree_variables a (tree.public n) = refl
   tree_variables a (tree.fresh k) = refl
@@ -168,7 +168,7 @@ list_variables a (t ∷ ts) =
     flat_map-append vars_of (tree_nodes a t) (trees_nodes a (trees_of ts)) ∙ ap (λ vs. vs ++ flat_map vars_of (trees_nodes a (trees_of ts))) (tree_variables a t)
     ∙ ap (λ vs. tree_vars t ++ vs) (list_variables a ts)
 
-facts_variables : (a : Part) (fs : List Fact) → flat_map vars_of (facts_nodes a fs) ≡ facts_vars fs
+pub facts_variables : (a : Part) (fs : List Fact) → flat_map vars_of (facts_nodes a fs) ≡ facts_vars fs
 facts_variables a [] = refl
 facts_variables a (f ∷ fs) =
     flat_map-append vars_of (fact_nodes a f) (facts_nodes a fs) ∙ ap (λ vs. vs ++ flat_map vars_of (facts_nodes a fs)) (trees_variables a (trees_of f.args))
@@ -182,7 +182,7 @@ two_variables t u =
     ap (λ vs. tree_vars t ++ vs) (append-nil (tree_vars u) ∙ sym (tree_variables Given u)) ∙ ap (λ vs. vs ++ flat_map vars_of (tree_nodes Given u)) (sym (tree_variables Given t))
     ∙ sym (flat_map-append vars_of (tree_nodes Given t) (tree_nodes Given u))
 
-other_variables : (e r : List Fact) → facts_vars (e ++ r) ≡ flat_map vars_of (facts_nodes Shown e ++ facts_nodes Given r)
+pub other_variables : (e r : List Fact) → facts_vars (e ++ r) ≡ flat_map vars_of (facts_nodes Shown e ++ facts_nodes Given r)
 other_variables e r =
     flat_map-append (λ (f : Fact). trees_vars (trees_of f.args)) e r ∙ ap (λ vs. vs ++ facts_vars r) (sym (facts_variables Shown e))
     ∙ ap (λ vs. flat_map vars_of (facts_nodes Shown e) ++ vs) (sym (facts_variables Given r)) ∙ sym (flat_map-append vars_of (facts_nodes Shown e) (facts_nodes Given r))
@@ -192,12 +192,12 @@ abbrev Told : Sig → List Site → Site → Proc → Type 0
 Told g before s p = IsTold g before s Unbound (found_at (head_met (trail_of s.above.scope 0) p).search)
 
 one_told : (g : Sig) (before : List Site) (s : Site) (t : Tree) (rest : List Node) → head_nodes s.body ≡ tree_nodes Given t ++ rest
-    → unbound s.above.scope s.body ≡ unknown s.above.scope (terms_vars (t ∷ [])) → IsTold g before s Unbound (found_at (searched Nothing s.above.scope 0 (tree_nodes Given t)))
+    → unbound s.above.scope s.body ≡ unknown s.above.scope (terms_vars (t ∷ [])) → IsTold g before s Unbound (found_at (searched Used s.above.scope 0 (tree_nodes Given t)))
 one_told g before s t rest e free = told_used g before s (tree_nodes Given t) rest e (free ∙ ap (unknown s.above.scope) (one_variables t))
 
 two_told : (g : Sig) (before : List Site) (s : Site) (t u : Tree) → head_nodes s.body ≡ tree_nodes Given t ++ tree_nodes Given u
     → unbound s.above.scope s.body ≡ unknown s.above.scope (terms_vars (t ∷ u ∷ []))
-    → IsTold g before s Unbound (found_at (searched Nothing s.above.scope 0 (tree_nodes Given t ++ tree_nodes Given u)))
+    → IsTold g before s Unbound (found_at (searched Used s.above.scope 0 (tree_nodes Given t ++ tree_nodes Given u)))
 two_told g before s t u e free =
     told_used g before s (tree_nodes Given t ++ tree_nodes Given u) [] (e ∙ sym (append-nil (tree_nodes Given t ++ tree_nodes Given u)))
     (free ∙ ap (unknown s.above.scope) (two_variables t u))
@@ -206,9 +206,9 @@ rule_told : (g : Sig) (before : List Site) (s : Site) (l e r : List Fact)
     → head_nodes s.body ≡ facts_nodes Pattern l ++ (facts_nodes Shown e ++ facts_nodes Given r)
     → unbound s.above.scope s.body ≡ unsigned_new (var_names (s.above.scope ++ facts_vars l)) (facts_vars (e ++ r))
     → IsTold g before s Unbound
-    (found_at (met_all Public (met_all Each (trail_of s.above.scope 0) (facts_nodes Pattern l)) (facts_nodes Shown e ++ facts_nodes Given r)).search)
+    (found_at (met_all Ruled (met_all Taken (trail_of s.above.scope 0) (facts_nodes Pattern l)) (facts_nodes Shown e ++ facts_nodes Given r)).search)
 rule_told g before s l e r nodes free =
-    subst (λ a. IsTold g before s Unbound (found_at (met_all Public a (facts_nodes Shown e ++ facts_nodes Given r)).search))
+    subst (λ a. IsTold g before s Unbound (found_at (met_all Ruled a (facts_nodes Shown e ++ facts_nodes Given r)).search))
     (sym (behind_left s.above.scope (facts_nodes Pattern l) 0 (omega arith)))
     (told_rule g before s (facts_nodes Pattern l) (facts_nodes Shown e ++ facts_nodes Given r) nodes
     (free ∙ ap (λ vs. unsigned_new (var_names (s.above.scope ++ vs)) (facts_vars (e ++ r))) (sym (facts_variables Pattern l))

@@ -3,8 +3,8 @@ use Rattle.sap_process.specs.Proc.{proc}
 use Rattle.sap_process.specs.declared.flaw.Flaw.TheVariants.{Unbound}
 use Rattle.sap_nodes.specs.FlawNodes.{IsTold}
 use Rattle.sap_nodes.specs.code.Searches.{found_at}
-use Rattle.sap_nodes.specs.code.Unbound.{head_met}
-use Rattle.sap_nodes.specs.declared.unbound.Trail.{Trail}
+use Rattle.sap_nodes.specs.code.Trails.{head_met}
+use Rattle.sap_nodes.specs.declared.trail.Trail.{Trail}
 use Rattle.sap_nodes.proofs.UnboundTold.{unbound_told}
 use Rattle.sap_nodes.proofs.unbound.unbound_node.Goals as goal
 
