@@ -3,6 +3,7 @@
 
 mod bound;
 mod finding;
+mod flawed;
 mod laws;
 mod part;
 mod signed;
@@ -11,6 +12,7 @@ mod unbound;
 
 pub use bound::rebound_node;
 pub use finding::word_node;
+pub use flawed::flaw_node;
 pub use laws::{nodes_by_hand, nodes_of_flaws};
 pub use part::Part;
 pub use signed::signed_node;
