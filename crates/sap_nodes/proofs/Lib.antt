@@ -10,3 +10,4 @@ pub mod UnboundLemmas
 pub mod UnboundTold
 pub mod ReboundTold
 pub mod SignedTold
+pub mod NodesOfFlaws
