@@ -88,7 +88,7 @@ of_shown = record { variable = λ v. refl; public = λ n. refl; fresh = λ k. re
   few (node.fresh k) = inl refl
   few (node.symbol a f k) = inl refl
 
-stored : (p : Proc) → flat_map stored_of (head_nodes p) ≡ stored_facts p
+pub stored : (p : Proc) → flat_map stored_of (head_nodes p) ≡ stored_facts p
 stored nil = refl
 stored (parallel p q) = refl
 stored (replicated p) = refl
@@ -109,7 +109,7 @@ stored (test t u p q) = none_in_two stored_of of_stored Given Given t u
 stored (lookup t x p q) =
     flat_map-append stored_of (tree_nodes Given t) _ ∙ ap (λ xs. xs ++ []) (none_in stored_of of_stored Given t)
 
-shown : (p : Proc) → flat_map shown_of (head_nodes p) ≡ shown_facts p
+pub shown : (p : Proc) → flat_map shown_of (head_nodes p) ≡ shown_facts p
 shown nil = refl
 shown (parallel p q) = refl
 shown (replicated p) = refl

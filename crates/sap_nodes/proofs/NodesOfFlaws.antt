@@ -1,6 +1,6 @@
 -- Where a node of its head has a flaw, the place has it.
-use Rattle.std.proofs.Common.{◌≡◌, ℕ, zero, suc, List, [], ◌∷◌, ◌++◌, Option, Some, None, inl, inr, length, refl, sym, ap, subst, ◌∙◌}
-use Rattle.std.specs.Prelude.{◌⊎◌, Contains, codes, nat_eq, slice_get, take, true}
+use Rattle.std.proofs.Common.{◌≡◌, ℕ, zero, suc, List, [], ◌∷◌, ◌++◌, Option, Some, None, inl, inr, length, take, slice_get, refl, sym, ap, subst, ◌∙◌}
+use Rattle.std.specs.Prelude.{◌⊎◌, Contains, codes, nat_eq, true}
 use Rattle.std.specs.List.{flat_map, starts_with}
 use Rattle.std.proofs.lemmas.List.Elements.{Contains-append_left, Contains-append_right, Contains-append_cases}
 use Rattle.sap_terms.specs.Destructors.{HasDestructor, AnyHasDestructor}
@@ -13,19 +13,19 @@ use Rattle.sap_terms.specs.declared.fact.Fact.{Fact}
 use Rattle.sap_terms.specs.declared.var.Var.{Var}
 use Rattle.sap_terms.proofs.PlainLaws.Items.{first_item, later_item, item_cases, cons_cases, contains_got}
 use Rattle.sap_process.specs.Action.{Action, new, out, send, input, receive, event, insert, delete, lock, unlock, embedded}
-use Rattle.sap_process.specs.Flaws.{unbound, HasReservedVar, HasReservedFact, HasPatternDestructor, Rebinds, HasSortClash, HasFlaw}
-use Rattle.sap_process.specs.Heads.{facts_terms, terms_vars, action_terms, head_terms, binder, bound_as, listed, action_patterns, patterns, stored_facts, shown_facts}
+use Rattle.sap_process.specs.Flaws.{unbound, HasClash, HasOtherArity, HasOtherForm, HasReservedVar, HasReservedFact, HasPatternDestructor, Rebinds, HasSortClash, HasFlaw}
+use Rattle.sap_process.specs.Heads.{facts_terms, terms_vars, head_terms, binder, bound_as, listed, patterns, stored_facts, shown_facts}
 use Rattle.sap_process.specs.Proc.{Proc, nil, parallel, replicated, act, test, lookup}
 use Rattle.sap_process.specs.Sites.{Site, var_names, message_var}
 use Rattle.sap_process.specs.declared.flaw.Flaw.{Flaw}
 use Rattle.sap_process.specs.declared.flaw.Flaw.TheVariants.{BadFunction, ReservedVar, ReservedFact, FactClash, PatternDestructor, Unbound, Rebound, SortClash, ScopeFull}
 use Rattle.sap_nodes.specs.HeadNodes as node
 use Rattle.sap_nodes.specs.HeadNodes.{Node, tree_nodes, trees_nodes, fact_nodes, facts_nodes, action_nodes, head_nodes}
-use Rattle.sap_nodes.specs.FlawNodes.{IsBadNode, IsReservedVarNode, IsReservedFactNode, IsDestructorNode, IsUnboundNode, IsReboundNode, IsOtherSignNode, IsFlawedAt, IsNodeOf, IsFound}
+use Rattle.sap_nodes.specs.FlawNodes.{IsBadNode, IsReservedVarNode, IsReservedFactNode, IsDestructorNode, IsUnboundNode, IsReboundNode, IsOtherSignNode, IsClashingNode, Differs, stored_of, shown_of, IsFlawedAt, IsNodeOf, IsOfHead}
 use Rattle.sap_nodes.specs.declared.part.Part.{Part}
 use Rattle.sap_nodes.specs.declared.part.Part.TheVariants.{Pattern, Shown, Given}
+use Rattle.sap_nodes.proofs.ClashNodes.{stored, shown as shown_in}
 use Rattle.sap_nodes.proofs.HeadMembers.{none_of, in_flat}
-use Rattle.sap_nodes.proofs.UnboundLemmas.{vars_of}
 use Rattle.sap_nodes.proofs.UnboundTold.{var_in, tree_variables}
 
 -- the node stands in a term at the head, or is what is bound there or a fact there
@@ -95,17 +95,17 @@ of_rule l e r q n c = by (Contains-append_cases (facts_nodes Pattern l) (facts_n
   behind (inl k) =
       let found = in_flat (fact_nodes Shown) e n k in
       of_fact (act (embedded l e r) q) Shown found.0 n (Contains-append_right (l ++ r) e found.0 found.1)
-        (λ t m. args_in (l ++ (e ++ r)) found.0 t (in_middle found.0 found.1) m) (λ t d m. absurd (shown d)) found.2
+      (λ t m. args_in (l ++ (e ++ r)) found.0 t (in_middle found.0 found.1) m) (λ t d m. absurd (shown d)) found.2
   behind (inr k) =
       let found = in_flat (fact_nodes Given) r n k in
       of_fact (act (embedded l e r) q) Given found.0 n (Contains-append_left (l ++ r) e found.0 (Contains-append_right l r found.0 found.1))
-        (λ t m. args_in (l ++ (e ++ r)) found.0 t (in_right found.0 found.1) m) (λ t d m. absurd (given d)) found.2
+      (λ t m. args_in (l ++ (e ++ r)) found.0 t (in_right found.0 found.1) m) (λ t d m. absurd (given d)) found.2
 
   by : Contains (facts_nodes Pattern l) n ⊎ Contains (facts_nodes Shown e ++ facts_nodes Given r) n → Origin (act (embedded l e r) q) n
   by (inl k) =
       let found = in_flat (fact_nodes Pattern) l n k in
       of_fact (act (embedded l e r) q) Pattern found.0 n (Contains-append_left (l ++ r) e found.0 (Contains-append_left l r found.0 found.1))
-        (λ t m. args_in (l ++ (e ++ r)) found.0 t (in_left found.0 found.1) m) (λ t d m. args_in l found.0 t found.1 m) found.2
+      (λ t m. args_in (l ++ (e ++ r)) found.0 t (in_left found.0 found.1) m) (λ t d m. args_in l found.0 t found.1 m) found.2
   by (inr k) = behind (Contains-append_cases (facts_nodes Shown e) (facts_nodes Given r) n k)
 
 of_given : (p : Proc) (t : Tree) (n : Node) → Contains (head_terms p) t → Contains (tree_nodes Given t) n → Origin p n
@@ -172,16 +172,16 @@ mutual
   held_in g a b (tree.fresh m) f k c o = let e = item_cases (node.fresh m) (node.symbol b f k) c in absurd (fresh_symbol m b f k e)
   held_in g a b (tree.apply h ts) f k c o =
       elim (cons_cases (node.symbol a h (length (list_of ts))) (trees_nodes a ts) (node.symbol b f k) c) as (λ _. arity_of g f ≡ Some k) [
-        inl e ↦ same_held g a b h f (length (list_of ts)) k e o.0
-      | inr m ↦ held_in_all g a b ts f k m o.1
+        | inl e ↦ same_held g a b h f (length (list_of ts)) k e o.0
+        | inr m ↦ held_in_all g a b ts f k m o.1
       ]
 
   held_in_all : (g : Sig) (a b : Part) (ts : Trees) (f : List ℕ) (k : ℕ) → Contains (trees_nodes a ts) (node.symbol b f k) → AreOver g ts → arity_of g f ≡ Some k
   held_in_all g a b none f k c o = absurd (none_of (node.symbol b f k) c)
   held_in_all g a b (more t ts) f k c o =
       elim (Contains-append_cases (tree_nodes a t) (trees_nodes a ts) (node.symbol b f k) c) as (λ _. arity_of g f ≡ Some k) [
-        inl m ↦ held_in g a b t f k m o.0
-      | inr m ↦ held_in_all g a b ts f k m o.1
+        | inl m ↦ held_in g a b t f k m o.0
+        | inr m ↦ held_in_all g a b ts f k m o.1
       ]
 
 mutual
@@ -192,8 +192,8 @@ mutual
   destructor_in g a (tree.fresh m) f k c d = absurd (fresh_symbol m Pattern f k (item_cases (node.fresh m) (node.symbol Pattern f k) c))
   destructor_in g a (tree.apply h ts) f k c d =
       elim (cons_cases (node.symbol a h (length (list_of ts))) (trees_nodes a ts) (node.symbol Pattern f k) c) as (λ _. (a ≡ Pattern) × HasDestructor g (tree.apply h ts)) [
-        inl e ↦ (ap symbol_part e, inl (ap (λ n. is_destructor_of g (symbol_name n)) e ∙ d))
-      | inr m ↦ let found = destructor_in_all g a ts f k m d in (found.0, inr found.1)
+        | inl e ↦ (ap symbol_part e, inl (ap (λ n. is_destructor_of g (symbol_name n)) e ∙ d))
+        | inr m ↦ let found = destructor_in_all g a ts f k m d in (found.0, inr found.1)
       ]
 
   destructor_in_all : (g : Sig) (a : Part) (ts : Trees) (f : List ℕ) (k : ℕ) → Contains (trees_nodes a ts) (node.symbol Pattern f k) → is_destructor_of g f ≡ true
@@ -201,8 +201,8 @@ mutual
   destructor_in_all g a none f k c d = absurd (none_of (node.symbol Pattern f k) c)
   destructor_in_all g a (more t ts) f k c d =
       elim (Contains-append_cases (tree_nodes a t) (trees_nodes a ts) (node.symbol Pattern f k) c) as (λ _. (a ≡ Pattern) × AnyHasDestructor g (more t ts)) [
-        inl m ↦ let found = destructor_in g a t f k m d in (found.0, inl found.1)
-      | inr m ↦ let found = destructor_in_all g a ts f k m d in (found.0, inr found.1)
+        | inl m ↦ let found = destructor_in g a t f k m d in (found.0, inl found.1)
+        | inr m ↦ let found = destructor_in_all g a ts f k m d in (found.0, inr found.1)
       ]
 
 -- neither what is bound nor a fact stands in a term
@@ -356,8 +356,56 @@ sign_place s (node.symbol b f k) c h = absurd h
 sign_place s (node.public m) c h = absurd h
 sign_place s (node.fresh m) c h = absurd h
 
+-- the facts in front of a node are those in front of its fact
+fact_index : (φ : Node → List Fact) (ns : List Node) (k : ℕ) (n : Node) (f : Fact) → slice_get ns k ≡ Some n → φ n ≡ f ∷ []
+    → (at : ℕ) × (slice_get (flat_map φ ns) at ≡ Some f) × (take at (flat_map φ ns) ≡ flat_map φ (take k ns))
+fact_index φ [] k n f e d = cc
+fact_index φ (m ∷ ms) zero n f e d =
+    (0, ap (λ hs. slice_get (hs ++ flat_map φ ms) 0) (ap φ (same_node m n e) ∙ d), refl)
+  where
+    same_node : (x y : Node) → Some x ≡ Some y → x ≡ y
+    same_node x y h = cc
+fact_index φ (m ∷ ms) (suc k) n f e d =
+    let later = fact_index φ ms k n f e d in
+    behind_all (φ m) later.0 later.1 later.2
+  where
+    behind_all : (hs : List Fact) (at : ℕ) → slice_get (flat_map φ ms) at ≡ Some f → take at (flat_map φ ms) ≡ flat_map φ (take k ms)
+        → (i : ℕ) × (slice_get (hs ++ flat_map φ ms) i ≡ Some f) × (take i (hs ++ flat_map φ ms) ≡ hs ++ flat_map φ (take k ms))
+    behind_all [] at a b = (at, a, b)
+    behind_all (h ∷ hs) at a b = let more = behind_all hs at a b in (suc more.0, more.1, ap (λ us. h ∷ us) more.2)
+
+-- a fact of these that differs from an earlier one
+clash_at : (differ : Fact → Fact → Type 0) (φ : Node → List Fact) (met facts : List Fact) (ns : List Node) (k : ℕ) (n : Node) (f : Fact) → flat_map φ ns ≡ facts
+    → slice_get ns k ≡ Some n → φ n ≡ f ∷ [] → Differs differ (met ++ flat_map φ (take k ns)) f → HasClash differ met facts
+clash_at differ φ met facts ns k n f e stands d h =
+    let index = fact_index φ ns k n f stands d in
+    record {
+      at = index.0;
+      fact = f;
+      stands = ap (λ hs. slice_get hs index.0) (sym e) ∙ index.1;
+      earlier = h.other;
+      before = subst (λ hs. Contains (met ++ hs) h.other) (sym index.2 ∙ ap (take index.0) e) h.stands;
+      name = h.name;
+      other = h.differs;
+    }
+
+clash_place : (before : List Site) (s : Site) (k : ℕ) (n : Node) → slice_get (head_nodes s.body) k ≡ Some n → IsClashingNode before (take k (head_nodes s.body)) n
+    → HasClash HasOtherForm (flat_map (λ (b : Site). stored_facts b.body) before) (stored_facts s.body)
+    ⊎ HasClash HasOtherArity (flat_map (λ (b : Site). shown_facts b.body) before) (shown_facts s.body)
+clash_place before s k (node.fact Pattern f) e h =
+    inl (clash_at HasOtherForm stored_of (flat_map (λ (b : Site). stored_facts b.body) before) (stored_facts s.body) (head_nodes s.body) k (node.fact Pattern f) f (stored s.body) e refl h)
+clash_place before s k (node.fact Given f) e h =
+    inl (clash_at HasOtherForm stored_of (flat_map (λ (b : Site). stored_facts b.body) before) (stored_facts s.body) (head_nodes s.body) k (node.fact Given f) f (stored s.body) e refl h)
+clash_place before s k (node.fact Shown f) e h =
+    inr (clash_at HasOtherArity shown_of (flat_map (λ (b : Site). shown_facts b.body) before) (shown_facts s.body) (head_nodes s.body) k (node.fact Shown f) f (shown_in s.body) e refl h)
+clash_place before s k (node.variable v) e h = absurd h
+clash_place before s k (node.binder v) e h = absurd h
+clash_place before s k (node.symbol b f i) e h = absurd h
+clash_place before s k (node.public m) e h = absurd h
+clash_place before s k (node.fresh m) e h = absurd h
+
 -- where a node has a flaw, its place has it
-pub flawed_place : (g : Sig) (before : List Site) (s : Site) (w : Flaw) (k : ℕ) → IsFound w → IsFlawedAt g before s w k → HasFlaw g before s w
+pub flawed_place : (g : Sig) (before : List Site) (s : Site) (w : Flaw) (k : ℕ) → IsOfHead w → IsFlawedAt g before s w k → HasFlaw g before s w
 flawed_place g before s BadFunction k o h = bad_place g before s h.node (contains_got (head_nodes s.body) h.node k h.stands) h.flaw
 flawed_place g before s ReservedVar k o h = reserved_var_place s h.node (contains_got (head_nodes s.body) h.node k h.stands) h.flaw
 flawed_place g before s ReservedFact k o h = reserved_fact_place s h.node (contains_got (head_nodes s.body) h.node k h.stands) h.flaw
@@ -365,8 +413,8 @@ flawed_place g before s PatternDestructor k o h = destructor_place g s h.node (c
 flawed_place g before s Unbound k o h = unbound_place s h.node h.flaw
 flawed_place g before s Rebound k o h = rebound_place s h.node (contains_got (head_nodes s.body) h.node k h.stands) h.flaw
 flawed_place g before s SortClash k o h = sign_place s h.node (contains_got (head_nodes s.body) h.node k h.stands) h.flaw
-flawed_place g before s FactClash k o h = absurd o
+flawed_place g before s FactClash k o h = clash_place before s k h.node h.stands h.flaw
 flawed_place g before s ScopeFull k o h = absurd o
 
-pub place_of_node : (g : Sig) (before : List Site) (s : Site) (w : Flaw) (k : ℕ) → IsFound w → IsNodeOf g before s w k → HasFlaw g before s w
+pub place_of_node : (g : Sig) (before : List Site) (s : Site) (w : Flaw) (k : ℕ) → IsOfHead w → IsNodeOf g before s w k → HasFlaw g before s w
 place_of_node g before s w k o h = flawed_place g before s w k o h.here

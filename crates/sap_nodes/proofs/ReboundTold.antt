@@ -1,6 +1,6 @@
 -- Where what a head binds stands.
-use Rattle.std.proofs.Common.{◌≡◌, ℕ, ◌+◌, ◌<◌, List, [], ◌∷◌, ◌++◌, Bool, true, false, Option, Some, None, inl, inr, arith, length, refl, sym, ap, subst, ◌∙◌}
-use Rattle.std.specs.Prelude.{◌⊎◌, Contains, min, slice_get, if◌then◌else◌}
+use Rattle.std.proofs.Common.{◌≡◌, ℕ, ◌+◌, ◌<◌, List, [], ◌∷◌, ◌++◌, Bool, true, false, Some, None, inl, inr, arith, length, refl, sym, ap, subst, ◌∙◌}
+use Rattle.std.specs.Prelude.{Contains, min, slice_get, if◌then◌else◌}
 use Rattle.std.proofs.lemmas.List.{length-append}
 use Rattle.std.proofs.lemmas.List.Elements.{Contains-append_cases}
 use Rattle.sap_terms.specs.Signature.{Sig}
@@ -15,7 +15,7 @@ use Rattle.sap_process.specs.Proc.{Proc, nil, parallel, replicated, act, test, l
 use Rattle.sap_process.specs.Sites.{Site, var_names, message_var}
 use Rattle.sap_process.specs.declared.flaw.Flaw.TheVariants.{Rebound}
 use Rattle.sap_nodes.specs.HeadNodes.{Node, binder, variable, public, fresh, symbol, fact, tree_nodes, trees_nodes, fact_nodes, facts_nodes, head_nodes}
-use Rattle.sap_nodes.specs.FlawNodes.{IsReboundNode, IsFlawedAt, IsNodeOf, IsTold}
+use Rattle.sap_nodes.specs.FlawNodes.{IsReboundNode, IsFlawedAt, IsTold}
 use Rattle.sap_nodes.specs.code.Rebound.{action_binder_at, binder_at}
 use Rattle.sap_nodes.specs.code.Searches.{most}
 use Rattle.sap_nodes.specs.declared.part.Part.{Part}
@@ -40,8 +40,8 @@ mutual
 fact_none : (s : Site) (a : Part) (f : Fact) (n : Node) → Contains (fact_nodes a f) n → IsReboundNode s n → ⊥
 fact_none s a f n c h =
     elim (cons_cases (fact a f) (trees_nodes a (tree.trees_of f.args)) n c) as (λ _. ⊥) [
-      inl e ↦ subst (IsReboundNode s) (sym e) h
-    | inr k ↦ none_bounds s a (tree.trees_of f.args) n k h
+      | inl e ↦ subst (IsReboundNode s) (sym e) h
+      | inr k ↦ none_bounds s a (tree.trees_of f.args) n k h
     ]
 
 facts_none : (s : Site) (a : Part) (fs : List Fact) (n : Node) → Contains (facts_nodes a fs) n → IsReboundNode s n → ⊥
@@ -68,15 +68,19 @@ last_told g before s front v true e c d = told (back_got front (binder v ∷ [])
   earlier : (k j : ℕ) → k ≡ length front + 0 → j < k → IsFlawedAt g before s Rebound j → ⊥
   earlier k j is l h =
       elim (got_cases front (binder v ∷ []) j h.node (sym (ap (λ ns. slice_get ns j) e) ∙ h.stands)) as (λ _. ⊥) [
-        inl there ↦ c h.node there h.flaw
-      | inr behind ↦ let at = behind.1 in omega (arith, is, l, at)
+        | inl there ↦ c h.node there h.flaw
+        | inr behind ↦ let at = behind.1 in omega (arith, is, l, at)
       ]
 
   told : (k : ℕ) × (k ≡ length front + 0) × (slice_get (front ++ binder v ∷ []) k ≡ Some (binder v)) → IsTold g before s Rebound (Some (min (length front) most))
-  told r = (r.0, record {
-    here = record { node = binder v; stands = ap (λ ns. slice_get ns r.0) e ∙ r.2; flaw = d };
-    first = λ j. earlier r.0 j r.1;
-  }, let is = r.1 in omega (arith, is))
+  told r = (
+    r.0,
+    record {
+      here = record { node = binder v; stands = ap (λ ns. slice_get ns r.0) e ∙ r.2; flaw = d };
+      first = λ j. earlier r.0 j r.1;
+    },
+    let is = r.1 in omega (arith, is),
+  )
 
 -- as many nodes stand for a term as it has
 mutual
@@ -110,8 +114,8 @@ told_action g before s (lock t n) p e = told_clear g before s (tree_nodes Given 
 told_action g before s (unlock t n) p e = told_clear g before s (tree_nodes Given t) (ap head_nodes e) (none_bound s Given t)
 told_action g before s (embedded l m r) p e =
     told_clear g before s (facts_nodes Pattern l ++ (facts_nodes Shown m ++ facts_nodes Given r)) (ap head_nodes e)
-      (both_clear s (facts_nodes Pattern l) (facts_nodes Shown m ++ facts_nodes Given r) (facts_none s Pattern l)
-        (both_clear s (facts_nodes Shown m) (facts_nodes Given r) (facts_none s Shown m) (facts_none s Given r)))
+    (both_clear s (facts_nodes Pattern l) (facts_nodes Shown m ++ facts_nodes Given r) (facts_none s Pattern l)
+    (both_clear s (facts_nodes Shown m) (facts_nodes Given r) (facts_none s Shown m) (facts_none s Given r)))
 
 told_head : (g : Sig) (before : List Site) (s : Site) (p : Proc) → s.body ≡ p → IsTold g before s Rebound (binder_at s.above.scope p)
 told_head g before s nil e = told_clear g before s [] (ap head_nodes e) (λ n k h. none_of n k)
@@ -121,7 +125,7 @@ told_head g before s (act x p) e = told_action g before s x p e
 told_head g before s (test t u p q) e = told_clear g before s (tree_nodes Given t ++ tree_nodes Given u) (ap head_nodes e) (two_clear s Given Given t u)
 told_head g before s (lookup t x p q) e =
     subst (λ k. IsTold g before s Rebound (if is_known (var_names s.above.scope) x.name then Some (min k most) else None)) (counted Given t)
-      (last_told g before s (tree_nodes Given t) (message_var x) (is_known (var_names s.above.scope) x.name) (ap head_nodes e) (none_bound s Given t) refl)
+    (last_told g before s (tree_nodes Given t) (message_var x) (is_known (var_names s.above.scope) x.name) (ap head_nodes e) (none_bound s Given t) refl)
 
 pub rebound_told : (g : Sig) (before : List Site) (s : Site) (p : Proc) (scope : List Var) → s.body ≡ p → s.above.scope ≡ scope
     → IsTold g before s Rebound (binder_at scope p)

@@ -1,13 +1,13 @@
 -- A search for a variable with another sign than its binder's sort tells of which node the flaw speaks.
-use Rattle.std.proofs.Common.{◌≡◌, ℕ, zero, suc, ◌+◌, ◌<◌, ◌≤◌, List, [], ◌∷◌, ◌++◌, Bool, true, false, cond, Option, Some, None, inl, inr, arith, length, filter, refl, sym, ap, subst, ◌∙◌}
-use Rattle.std.specs.Prelude.{◌⊎◌, Contains, not, ◌&&◌, ◌||◌, min, slice_get, if◌then◌else◌, option_map}
+use Rattle.std.proofs.Common.{◌≡◌, ℕ, ◌<◌, List, [], ◌∷◌, ◌++◌, Bool, true, false, cond, Option, Some, None, inl, inr, arith, filter, refl, sym, ap, subst, ◌∙◌}
+use Rattle.std.specs.Prelude.{◌⊎◌, Contains, not, ◌||◌, slice_get, if◌then◌else◌, option_map}
 use Rattle.std.specs.List.{flat_map}
 use Rattle.std.specs.Str.{bytes_eq}
-use Rattle.std.proofs.lemmas.List.{append-nil, append_assoc}
+use Rattle.std.proofs.lemmas.List.{append-nil}
 use Rattle.std.proofs.lemmas.List.Concat.{flat_map-append}
 use Rattle.sap_terms.specs.Same.{same_sort}
 use Rattle.sap_terms.specs.Signature.{Sig}
-use Rattle.sap_terms.specs.Tree.{Tree, trees_of}
+use Rattle.sap_terms.specs.Tree.{trees_of}
 use Rattle.sap_terms.specs.Variables.{tree_vars, trees_vars, facts_vars, is_known, new_vars}
 use Rattle.sap_terms.specs.declared.fact.Fact.{Fact}
 use Rattle.sap_terms.specs.declared.var.Sort.{Sort}
@@ -22,12 +22,11 @@ use Rattle.sap_process.specs.Proc.{Proc, nil, parallel, replicated, act, test, l
 use Rattle.sap_process.specs.Sites.{Site, var_names, message_var}
 use Rattle.sap_process.specs.code.Tests.{is_other_sort, has_other_sort}
 use Rattle.sap_process.specs.declared.flaw.Flaw.TheVariants.{SortClash}
-use Rattle.sap_nodes.specs.HeadNodes.{Node, binder, variable, public, fresh, symbol, fact, tree_nodes, fact_nodes, facts_nodes, action_nodes, head_nodes}
-use Rattle.sap_nodes.specs.FlawNodes.{HasOtherSign, IsOtherSignNode, IsFlawedAt, IsNodeOf, IsTold}
-use Rattle.sap_nodes.specs.code.Searches.{most, at_first, found_at}
+use Rattle.sap_nodes.specs.HeadNodes.{Node, binder, variable, public, fresh, symbol, fact, tree_nodes, fact_nodes, facts_nodes, head_nodes}
+use Rattle.sap_nodes.specs.FlawNodes.{HasOtherSign, IsOtherSignNode, IsFlawedAt, IsTold}
+use Rattle.sap_nodes.specs.code.Searches.{at_first, found_at}
 use Rattle.sap_nodes.specs.code.Signs.{patterns_met, terms_met}
 use Rattle.sap_nodes.specs.code.Trails.{met_all}
-use Rattle.sap_nodes.specs.declared.finding.Search.{Search}
 use Rattle.sap_nodes.specs.declared.part.Part.TheVariants.{Pattern, Shown, Given}
 use Rattle.sap_nodes.specs.declared.trail.How.TheVariants.{Taken, Signed}
 use Rattle.sap_nodes.specs.declared.trail.Trail.{Trail}
@@ -67,13 +66,13 @@ sign_found scope v (Some b) e h k = record { signed = apart_sound v.sort Msg h; 
 sign_sound : (scope : List Var) (v : Var) → has_other_sort scope v ≡ true → HasOtherSign scope v
 sign_sound scope v h =
     sign_found scope v (binder_of scope v.name) refl
-      (and_left (not (same_sort v.sort Msg)) (is_other_sort (option_map (λ (b : Var). b.sort) (binder_of scope v.name)) v.sort) h)
-      (and_right (not (same_sort v.sort Msg)) (is_other_sort (option_map (λ (b : Var). b.sort) (binder_of scope v.name)) v.sort) h)
+    (and_left (not (same_sort v.sort Msg)) (is_other_sort (option_map (λ (b : Var). b.sort) (binder_of scope v.name)) v.sort) h)
+    (and_right (not (same_sort v.sort Msg)) (is_other_sort (option_map (λ (b : Var). b.sort) (binder_of scope v.name)) v.sort) h)
 
 sign_complete : (scope : List Var) (v : Var) → HasOtherSign scope v → has_other_sort scope v ≡ true
 sign_complete scope v h =
     and_true (not (same_sort v.sort Msg)) (is_other_sort (option_map (λ (b : Var). b.sort) (binder_of scope v.name)) v.sort) (apart_complete v.sort Msg h.signed)
-      (subst (λ (o : Option Var). is_other_sort (option_map (λ (b : Var). b.sort) o) v.sort ≡ true) (sym h.binder) (apart_complete h.bound.sort v.sort h.other))
+    (subst (λ (o : Option Var). is_other_sort (option_map (λ (b : Var). b.sort) o) v.sort ≡ true) (sym h.binder) (apart_complete h.bound.sort v.sort h.other))
 
 -- binders among all variables, and among the first ones of their names
 
@@ -145,35 +144,38 @@ told_signed g before s known used rest e bare same = by (outcome_kept Signed kno
   in_used : (k : ℕ) (n : Node) (v : Var) → slice_get (head_nodes s.body) k ≡ Some n → n ≡ variable v → Contains used (variable v)
   in_used k n v stands is =
       elim (got_cases used rest k n (sym (ap (λ ns. slice_get ns k) e) ∙ stands)) as (λ _. Contains used (variable v)) [
-        inl there ↦ subst (Contains used) is there
-      | inr behind ↦ absurd (bare v (contains_got rest (variable v) behind.0 (behind.2 ∙ ap Some is)))
+        | inl there ↦ subst (Contains used) is there
+        | inr behind ↦ absurd (bare v (contains_got rest (variable v) behind.0 (behind.2 ∙ ap Some is)))
       ]
 
   nothing : freed Signed known (flat_map vars_of used) ≡ [] → (k : ℕ) → IsFlawedAt g before s SortClash k → ⊥
   nothing m k h =
       let v = is_var s h.node h.flaw in
       none_of v.0 (subst (λ vs. Contains vs v.0) m
-        (passes_in (has_other_sort known) (flat_map vars_of used) v.0 (var_in used v.0 (in_used k h.node v.0 h.stands v.1)) (tested v.0 v.2)))
+      (passes_in (has_other_sort known) (flat_map vars_of used) v.0 (var_in used v.0 (in_used k h.node v.0 h.stands v.1)) (tested v.0 v.2)))
 
   earlier : (h : Hit (freed Signed known (flat_map vars_of used)) used 0 (searched Signed known 0 used)) (j : ℕ) → j < h.place → IsFlawedAt g before s SortClash j → ⊥
   earlier h j l f =
       let v = is_var s f.node f.flaw in
       h.first j v.0 l (sym (front_same used rest h.place (variable h.var) h.stands j l) ∙ sym (ap (λ ns. slice_get ns j) e) ∙ f.stands ∙ ap Some v.1)
-        (passes_in (has_other_sort known) (flat_map vars_of used) v.0 (var_in used v.0 (in_used j f.node v.0 f.stands v.1)) (tested v.0 v.2))
+      (passes_in (has_other_sort known) (flat_map vars_of used) v.0 (var_in used v.0 (in_used j f.node v.0 f.stands v.1)) (tested v.0 v.2))
 
   by : Hit (freed Signed known (flat_map vars_of used)) used 0 (searched Signed known 0 used) ⊎ Miss (freed Signed known (flat_map vars_of used)) (searched Signed known 0 used)
       → IsTold g before s SortClash (found_at (searched Signed known 0 used))
   by (inr m) = subst (IsTold g before s SortClash) (sym (ap (λ (b : Bool). if b then Some (searched Signed known 0 used).at else None) m.found)) (λ k h. nothing m.nothing k h.here)
-  by (inl h) = subst (IsTold g before s SortClash) (sym (ap (λ (b : Bool). if b then Some (searched Signed known 0 used).at else None) h.found))
-    (h.place, record {
+  by (inl h) = subst (IsTold g before s SortClash) (sym (ap (λ (b : Bool). if b then Some (searched Signed known 0 used).at else None) h.found)) (
+    h.place,
+    record {
       here = record {
         node = variable h.var;
         stands = ap (λ ns. slice_get ns h.place) e ∙ front_got used rest h.place (variable h.var) h.stands;
         flaw = same_signs known (scope_at s.above.scope s.body) same h.var
-          (sign_sound known h.var (passed (has_other_sort known) (flat_map vars_of used) h.var h.is));
+            (sign_sound known h.var (passed (has_other_sort known) (flat_map vars_of used) h.var h.is));
       };
       first = earlier h;
-    }, let n = h.counted in omega (arith, n))
+    },
+    let n = h.counted in omega (arith, n),
+  )
 
 -- where no variable stands
 told_bare : (g : Sig) (before : List Site) (s : Site) (ns : List Node) → head_nodes s.body ≡ ns → ((v : Var) → Contains ns (variable v) → ⊥) → IsTold g before s SortClash None
@@ -225,12 +227,12 @@ told_action g before s (out t) p e = plain_told g before s (act (out t) p) (tree
 told_action g before s (send t u) p e = plain_told g before s (act (send t u) p) (tree_nodes Given t ++ tree_nodes Given u) e refl (append-nil s.above.scope)
 told_action g before s (input t) p e =
     told_signed g before s (met_all Taken (trail_of s.above.scope 0) (tree_nodes Pattern t)).known (tree_nodes Pattern t) []
-      (ap head_nodes e ∙ sym (append-nil (tree_nodes Pattern t))) no_variable
-      (new_binders s (act (input t) p) _ (tree_vars t) e (known_behind s.above.scope (tree_nodes Pattern t) (tree_vars t) (tree_variables Pattern t)) refl)
+    (ap head_nodes e ∙ sym (append-nil (tree_nodes Pattern t))) no_variable
+    (new_binders s (act (input t) p) _ (tree_vars t) e (known_behind s.above.scope (tree_nodes Pattern t) (tree_vars t) (tree_variables Pattern t)) refl)
 told_action g before s (receive t u) p e =
     told_signed g before s (met_all Taken (trail_of s.above.scope 0) (tree_nodes Pattern u)).known (tree_nodes Given t ++ tree_nodes Pattern u) []
-      (ap head_nodes e ∙ sym (append-nil (tree_nodes Given t ++ tree_nodes Pattern u))) no_variable
-      (new_binders s (act (receive t u) p) _ (tree_vars u) e (known_behind s.above.scope (tree_nodes Pattern u) (tree_vars u) (tree_variables Pattern u)) refl)
+    (ap head_nodes e ∙ sym (append-nil (tree_nodes Given t ++ tree_nodes Pattern u))) no_variable
+    (new_binders s (act (receive t u) p) _ (tree_vars u) e (known_behind s.above.scope (tree_nodes Pattern u) (tree_vars u) (tree_variables Pattern u)) refl)
 told_action g before s (event f) p e = plain_told g before s (act (event f) p) (fact_nodes Shown f) e refl (append-nil s.above.scope)
 told_action g before s (insert t u) p e = plain_told g before s (act (insert t u) p) (tree_nodes Given t ++ tree_nodes Given u) e refl (append-nil s.above.scope)
 told_action g before s (delete t) p e = plain_told g before s (act (delete t) p) (tree_nodes Given t) e refl (append-nil s.above.scope)
@@ -238,16 +240,16 @@ told_action g before s (lock t n) p e = plain_told g before s (act (lock t n) p)
 told_action g before s (unlock t n) p e = plain_told g before s (act (unlock t n) p) (tree_nodes Given t) e refl (append-nil s.above.scope)
 told_action g before s (embedded l m r) p e =
     subst (λ (a : Trail). IsTold g before s SortClash (found_at a.search))
-      (met_append Signed (trail_of (met_all Taken (met_all Taken (trail_of s.above.scope 0) (facts_nodes Pattern l)) (facts_nodes Shown m ++ facts_nodes Given r)).known 0)
-        (facts_nodes Pattern l) (facts_nodes Shown m ++ facts_nodes Given r))
-      (told_signed g before s
-        (met_all Taken (met_all Taken (trail_of s.above.scope 0) (facts_nodes Pattern l)) (facts_nodes Shown m ++ facts_nodes Given r)).known
-        (facts_nodes Pattern l ++ (facts_nodes Shown m ++ facts_nodes Given r)) []
-        (ap head_nodes e ∙ sym (append-nil (facts_nodes Pattern l ++ (facts_nodes Shown m ++ facts_nodes Given r)))) no_variable
-        (new_binders s (act (embedded l m r) p) _ (facts_vars (l ++ (m ++ r))) e
-          (sym (ap (λ (a : Trail). a.known) (met_append Taken (trail_of s.above.scope 0) (facts_nodes Pattern l) (facts_nodes Shown m ++ facts_nodes Given r)))
-            ∙ known_behind s.above.scope (facts_nodes Pattern l ++ (facts_nodes Shown m ++ facts_nodes Given r)) (facts_vars (l ++ (m ++ r))) (rule_variables l m r))
-          refl))
+    (met_append Signed (trail_of (met_all Taken (met_all Taken (trail_of s.above.scope 0) (facts_nodes Pattern l)) (facts_nodes Shown m ++ facts_nodes Given r)).known 0)
+    (facts_nodes Pattern l) (facts_nodes Shown m ++ facts_nodes Given r))
+    (told_signed g before s
+    (met_all Taken (met_all Taken (trail_of s.above.scope 0) (facts_nodes Pattern l)) (facts_nodes Shown m ++ facts_nodes Given r)).known
+    (facts_nodes Pattern l ++ (facts_nodes Shown m ++ facts_nodes Given r)) []
+    (ap head_nodes e ∙ sym (append-nil (facts_nodes Pattern l ++ (facts_nodes Shown m ++ facts_nodes Given r)))) no_variable
+    (new_binders s (act (embedded l m r) p) _ (facts_vars (l ++ (m ++ r))) e
+    (sym (ap (λ (a : Trail). a.known) (met_append Taken (trail_of s.above.scope 0) (facts_nodes Pattern l) (facts_nodes Shown m ++ facts_nodes Given r)))
+    ∙ known_behind s.above.scope (facts_nodes Pattern l ++ (facts_nodes Shown m ++ facts_nodes Given r)) (facts_vars (l ++ (m ++ r))) (rule_variables l m r))
+    refl))
 
 told_head : (g : Sig) (before : List Site) (s : Site) (p : Proc) → s.body ≡ p → Told g before s p
 told_head g before s nil e = told_bare g before s [] (ap head_nodes e) no_variable
@@ -257,11 +259,11 @@ told_head g before s (act x p) e = told_action g before s x p e
 told_head g before s (test t u p q) e = plain_told g before s (test t u p q) (tree_nodes Given t ++ tree_nodes Given u) e refl refl
 told_head g before s (lookup t x p q) e =
     told_signed g before s s.above.scope (tree_nodes Given t) (binder (message_var x) ∷ []) (ap head_nodes e) (binder_bare (message_var x))
-      (plain_binders s (lookup t x p q) e refl)
+    (plain_binders s (lookup t x p q) e refl)
 
 pub signed_told : (g : Sig) (before : List Site) (s : Site) (p : Proc) (scope : List Var) → s.body ≡ p → s.above.scope ≡ scope
     → IsTold g before s SortClash
-      (found_at (terms_met (record { known = (patterns_met (record { known = scope; search = at_first }) p).known; search = at_first }) p).search)
+    (found_at (terms_met (record { known = (patterns_met (record { known = scope; search = at_first }) p).known; search = at_first }) p).search)
 signed_told g before s p scope e d =
     subst (λ (vs : List Var). IsTold g before s SortClash
-      (found_at (terms_met (record { known = (patterns_met (record { known = vs; search = at_first }) p).known; search = at_first }) p).search)) d (told_head g before s p e)
+    (found_at (terms_met (record { known = (patterns_met (record { known = vs; search = at_first }) p).known; search = at_first }) p).search)) d (told_head g before s p e)

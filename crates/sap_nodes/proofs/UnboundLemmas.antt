@@ -158,11 +158,11 @@ outcome_kept how known kept (fact a f ∷ ns) at l =
     past (freed how known (flat_map vars_of ns)) (fact a f) ns at (searched how known (min (at + 1) most) ns) (λ u e c. cc) (outcome_kept how known kept ns (min (at + 1) most) (omega arith))
 outcome_kept how known kept (variable v ∷ ns) at l =
     subst (λ (d : Bool).
-      Hit (freed how known (v ∷ flat_map vars_of ns)) (variable v ∷ ns) at
-        (met_all how (record { known = if d then known ++ v ∷ [] else known; search = visited (is_free how v known) (record { at = at; found = false }) }) ns).search
-      ⊎ Miss (freed how known (v ∷ flat_map vars_of ns))
-        (met_all how (record { known = if d then known ++ v ∷ [] else known; search = visited (is_free how v known) (record { at = at; found = false }) }) ns).search)
-      (sym (kept v)) (by (is_free how v known) refl (outcome_kept how known kept ns (min (at + 1) most) (omega arith)))
+    Hit (freed how known (v ∷ flat_map vars_of ns)) (variable v ∷ ns) at
+    (met_all how (record { known = if d then known ++ v ∷ [] else known; search = visited (is_free how v known) (record { at = at; found = false }) }) ns).search
+    ⊎ Miss (freed how known (v ∷ flat_map vars_of ns))
+    (met_all how (record { known = if d then known ++ v ∷ [] else known; search = visited (is_free how v known) (record { at = at; found = false }) }) ns).search)
+    (sym (kept v)) (by (is_free how v known) refl (outcome_kept how known kept ns (min (at + 1) most) (omega arith)))
   where
     not_free : is_free how v known ≡ false → (u : Var) → Some (variable v) ≡ Some (variable u) → Contains (freed how known (flat_map vars_of ns)) u → ⊥
     not_free e u s c =
@@ -174,13 +174,13 @@ outcome_kept how known kept (variable v ∷ ns) at l =
         → Hit (freed how known (flat_map vars_of ns)) ns (min (at + 1) most) (searched how known (min (at + 1) most) ns)
         ⊎ Miss (freed how known (flat_map vars_of ns)) (searched how known (min (at + 1) most) ns)
         → Hit (cond b (v ∷ freed how known (flat_map vars_of ns)) (freed how known (flat_map vars_of ns))) (variable v ∷ ns) at
-          (met_all how (record { known = known; search = visited b (record { at = at; found = false }) }) ns).search
+        (met_all how (record { known = known; search = visited b (record { at = at; found = false }) }) ns).search
         ⊎ Miss (cond b (v ∷ freed how known (flat_map vars_of ns)) (freed how known (flat_map vars_of ns)))
-          (met_all how (record { known = known; search = visited b (record { at = at; found = false }) }) ns).search
+        (met_all how (record { known = known; search = visited b (record { at = at; found = false }) }) ns).search
     by false e later = past (freed how known (flat_map vars_of ns)) (variable v) ns at (searched how known (min (at + 1) most) ns) (not_free e) later
     by true e later =
         inl (subst (Hit (v ∷ freed how known (flat_map vars_of ns)) (variable v ∷ ns) at) (sym (stays how known at ns))
-          (here (freed how known (flat_map vars_of ns)) v ns at l))
+        (here (freed how known (flat_map vars_of ns)) v ns at l))
 
 pub outcome_used : (known : List Var) (ns : List Node) (at : ℕ) → at ≤ most
     → Hit (unknown known (flat_map vars_of ns)) ns at (searched Used known at ns) ⊎ Miss (unknown known (flat_map vars_of ns)) (searched Used known at ns)

@@ -46,7 +46,7 @@ at_root scope p = place [] (above_of scope 0) p
 abbrev pub SpeaksOf : List Var → Action → Flaw → ℕ → Type 0
 SpeaksOf scope a w k = IsNodeOf pairs_alone [] (at_root scope (act a nil)) w k
 
--- in(fst(c), <x, fst(y)>): of its nodes fst, c, pair, x, fst, y the first fst is on the channel, the second in the pattern
+-- in(fst(c), <w, fst(y)>): of its nodes fst, c, pair, w, fst, y the first fst is on the channel, the second in the pattern
 abbrev pub destructors : Action
 destructors = receive (app1 fst_name c) (app2 pair_name (variable (var_of (codes "w") Msg)) (app1 fst_name y))
 
@@ -61,7 +61,7 @@ two_variables = out (app2 pair_name x y)
 abbrev pub with_public : Action
 with_public = embedded [] (linear (codes "A") (public_x ∷ []) ∷ []) (linear (codes "F") (x ∷ y ∷ []) ∷ [])
 
--- out(<x, $x>)
+-- out(<~x, $x>)
 abbrev pub two_signs : Action
 two_signs = out (app2 pair_name (variable (var_of (codes "x") Fresh)) public_x)
 

@@ -5,17 +5,17 @@ ghost use Rattle.sap_process.specs.Flaws.{HasFlaw};
 ghost use Rattle.sap_process.specs.Sites.{Site};
 ghost use Rattle.sap_process.specs.declared.flaw.Flaw.{Flaw};
 ghost use Rattle.sap_process.specs.declared.flaw.Flaw.TheVariants.{BadFunction, ReservedVar, ReservedFact, FactClash, PatternDestructor, Unbound, Rebound, SortClash};
-ghost use Rattle.sap_nodes.specs.FlawNodes.{IsFound, IsNodeOf, IsOfHead};
+ghost use Rattle.sap_nodes.specs.FlawNodes.{IsNodeOf, IsOfHead};
 ghost use Rattle.sap_nodes.specs.NodeExamples.{SpeaksOf, c_and_x, at_root, destructors, unknown_symbols, two_variables, with_public, two_signs, twice_reserved, reserved_facts, clashing, found_again};
 
 /// A law: a flaw speaks of one node of a head alone; where a place has a flaw, there is such a node at its head; and where there is
-/// one, the place has the flaw, unless it is one of facts that clash.
+/// one, the place has the flaw.
 pub fn nodes_of_flaws()
     ensures one { (g : Sig) (before : List Site) (s : Site) (w : Flaw) (j k : ℕ) → IsNodeOf g before s w j → IsNodeOf g before s w k
         → j ≡ k }
     ensures some { (g : Sig) (before : List Site) (s : Site) (w : Flaw) → IsOfHead w → HasFlaw g before s w
         → (k : ℕ) × IsNodeOf g before s w k }
-    ensures place { (g : Sig) (before : List Site) (s : Site) (w : Flaw) (k : ℕ) → IsFound w → IsNodeOf g before s w k → HasFlaw g before s w }
+    ensures place { (g : Sig) (before : List Site) (s : Site) (w : Flaw) (k : ℕ) → IsOfHead w → IsNodeOf g before s w k → HasFlaw g before s w }
 {}
 
 /// A law: of small heads where two nodes could be meant, the one of which the flaw speaks, and that it isn't the other: the

@@ -118,7 +118,13 @@ fn meet(alloc: Global, how: How, v: &Var, trail: &mut Trail) -> Result<(), Mem>
 
 #[cycle(nodes)]
 #[tactic(auto, using(crate::proofs::UnboundLemmas::met_laws))]
-pub(crate) fn in_term(alloc: Global, how: How, part: Part, t: &Term, trail: &mut Trail) -> Result<(), Mem>
+pub(crate) fn in_term(
+    alloc: Global,
+    how: How,
+    part: Part,
+    t: &Term,
+    trail: &mut Trail,
+) -> Result<(), Mem>
     ensures { OnOk result (trail.new ≡ met_all how trail.old (tree_nodes part (tree t.now))) }
 {
     match t {
@@ -166,7 +172,13 @@ pub(crate) fn in_both(
     in_term(alloc, how, part, u, trail)
 }
 
-pub(crate) fn in_fact(alloc: Global, how: How, part: Part, f: &Fact, trail: &mut Trail) -> Result<(), Mem>
+pub(crate) fn in_fact(
+    alloc: Global,
+    how: How,
+    part: Part,
+    f: &Fact,
+    trail: &mut Trail,
+) -> Result<(), Mem>
     ensures { OnOk result (trail.new ≡ met_all how trail.old (fact_nodes part f.now)) }
 {
     visit(&mut trail.search, false);

@@ -1,8 +1,8 @@
 -- A search for a variable with another sign than its binder's sort, as the code makes it.
-use Rattle.std.specs.Prelude.{List, [], ◌++◌}
-use Rattle.sap_process.specs.Action.{Action, new, out, send, input, receive, event, insert, delete, lock, unlock, embedded}
+use Rattle.std.specs.Prelude.{◌++◌}
+use Rattle.sap_process.specs.Action.{Action, new, input, receive, embedded}
 use Rattle.sap_process.specs.Proc.{Proc, nil, parallel, replicated, act, test, lookup}
-use Rattle.sap_nodes.specs.HeadNodes.{Node, tree_nodes, facts_nodes, action_nodes}
+use Rattle.sap_nodes.specs.HeadNodes.{tree_nodes, facts_nodes, action_nodes}
 use Rattle.sap_nodes.specs.code.Trails.{met_all}
 use Rattle.sap_nodes.specs.declared.part.Part.TheVariants.{Pattern, Shown, Given}
 use Rattle.sap_nodes.specs.declared.trail.How.TheVariants.{Taken, Signed}

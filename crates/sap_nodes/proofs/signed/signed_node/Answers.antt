@@ -11,9 +11,9 @@ use Rattle.sap_nodes.proofs.signed.signed_node.Goals as goal
 pub returns : goal.returns
 returns c = λ g before s e d.
     subst (IsTold g before s SortClash)
-      (sym (c.told.ensures
-        ∙ ap (λ (a : Trail). found_at a.search)
-          (c.in_ok-in_terms_of.ensures
-            ∙ ap (λ (a : Trail). terms_met (record { known = a.known; search = at_first }) (proc c.args.p.now))
-              (c.in_ok-in_patterns.ensures ∙ ap (λ (a : Trail). patterns_met a (proc c.args.p.now)) c.in_ok-trail.ensures))))
-      (signed_told g before s (proc c.args.p.now) c.args.scope.now e d)
+    (sym (c.told.ensures
+    ∙ ap (λ (a : Trail). found_at a.search)
+    (c.in_ok-in_terms_of.ensures
+    ∙ ap (λ (a : Trail). terms_met (record { known = a.known; search = at_first }) (proc c.args.p.now))
+    (c.in_ok-in_patterns.ensures ∙ ap (λ (a : Trail). patterns_met a (proc c.args.p.now)) c.in_ok-trail.ensures))))
+    (signed_told g before s (proc c.args.p.now) c.args.scope.now e d)
