@@ -17,18 +17,18 @@ use Rattle.sap_terms.specs.Signature.{Sig, pairs_alone}
 use Rattle.sap_terms.specs.Tree.{Tree, public, fresh, apply, none, more}
 use Rattle.sap_terms.specs.declared.var.Sort.{Sort}
 use Rattle.sap_terms.specs.declared.var.Sort.TheVariants.{Msg, Fresh, Pub}
-use Rattle.sap_process.specs.Action.{new, input, event, insert}
-use Rattle.sap_process.specs.Configuration.{ConfigOf, CanGive, initial, stored}
+use Rattle.sap_process.specs.Action.{new, input, event, insert, lock, unlock}
+use Rattle.sap_process.specs.Configuration.{ConfigOf, CanGive, initial, marked, stored}
 use Rattle.sap_process.specs.Head as head
 use Rattle.sap_process.specs.Head.{Head}
-use Rattle.sap_process.specs.ProcessSteps.{ProcessStep, splits, copies, makes_name, inputs, differs, shows, inserts, adversary_makes, starts, further}
+use Rattle.sap_process.specs.ProcessSteps.{ProcessStep, splits, copies, makes_name, inputs, differs, shows, inserts, locks, unlocks, adversary_makes, starts, further}
 use Rattle.sap_macro.specs.Expansion.{plain_bodies}
-use Rattle.sap_macro.specs.ExpansionExamples.{using_plain, a, b, of_name, fresh_of, news, taking}
+use Rattle.sap_macro.specs.ExpansionExamples.{using_plain, a, b, of_name, fresh_of, taking}
 use Rattle.sap_macro.specs.NameExamples.{both}
 use Rattle.sap_macro.specs.SortedExamples.{using_b}
 use Rattle.sap_macro.specs.UpToNames.{named}
 use Rattle.sap_macro.specs.Written.{Written, nil, call, Definition}
-use Rattle.sap_macro.specs.WrittenExamples.{telling_x, use_twin, told, told_both, new_at, got_at, same_one, two_apart, put_at, showing, using_a, using_put, use_a, naming_x, use_named, naming_z, naming_often, taking_twice, taking_other, use_taken, testing, use_testing, telling, telling_y, use_plain, putting, x_name, use_store}
+use Rattle.sap_macro.specs.WrittenExamples.{telling_x, use_twin, told, told_both, new_at, got_at, same_one, two_apart, put_at, showing, using_a, using_put, use_a, naming_x, use_named, naming_z, naming_often, taking_twice, taking_other, use_taken, testing, use_testing, telling, telling_y, use_plain, unlocking, telling_put, inserting, putting, x_name, two_puts, use_store}
 use Rattle.sap_macro.specs.WrittenRuns.{StartsWith, itself, use_of, StandsAs, writing, sorted_definition, IsFileTrace}
 use Rattle.sap_terms.proofs.PlainLaws.Items.{first_item, later_item, none_contained, item_cases}
 
@@ -227,66 +227,99 @@ module _ (normal : LeavesAreNormal) (g : Sig) where
   pub plain_body : IsFileTrace g (telling_y ∷ using_plain ∷ []) use_a ((told a ∷ []) ∷ [])
   plain_body = (initial nil, further starts tells_below)
 
-  -- ---- let Put(key,value) = insert key, value; event Put(key,value); (new ~k; Put('a',~k)) | Put('b','x')
+  -- ---- let Put(key,value) = lock key; insert key, value; event Put(key,value); unlock key; new ~n; ( Put('a',~n) | Put('b','x') )
 
   abbrev puts : List Definition
   puts = running (putting ∷ [])
 
-  abbrev store_of : List ℕ → (Tree → Option Tree) → List (Option Written) → ConfigOf (writing puts)
-  store_of ms s os = record (initial nil) { made = ms; store = s; threads = os }
+  -- with these names made, this stored and this held, these two run
+  abbrev store_of : List ℕ → (Tree → Option Tree) → (Tree → Bool) → List (Option Written) → ConfigOf (writing puts)
+  store_of ms s l os = record (initial nil) { made = ms; store = s; held = l; threads = os }
 
   abbrev nothing_stored : Tree → Option Tree
   nothing_stored t = None
 
+  abbrev nothing_held : Tree → Bool
+  nothing_held t = false
+
+  -- ~0 is made, and two threads run
+  abbrev storing : (Tree → Option Tree) → (Tree → Bool) → Written → Written → ConfigOf (writing puts)
+  storing s l p q = store_of (0 ∷ []) s l (Some p ∷ Some q ∷ [])
+
+  -- the store and what is held behind each insertion, lock and unlock
   abbrev stored_a : Tree → Option Tree
   stored_a = stored nothing_stored a (Some (fresh 0))
 
   abbrev stored_b : Tree → Option Tree
   stored_b = stored stored_a b (Some x_name)
 
-  abbrev new_put : Written
-  new_put = news (codes "k") (using_put a (fresh_of (codes "k")))
+  abbrev held_a : Tree → Bool
+  held_a = marked nothing_held a true
 
-  put_starts : (t u : Tree) → StartsWith puts (using_put t u) (head.act (insert t u) (showing (put_at t u)))
-  put_starts t u = use_of (sorted_definition putting) (first_item (sorted_definition putting) []) (itself (head.act (insert t u) (showing (put_at t u))))
+  abbrev left_a : Tree → Bool
+  left_a = marked held_a a false
 
-  two_puts : ProcessStep g (store_of [] nothing_stored (Some use_store ∷ [])) [] (store_of [] nothing_stored (Some new_put ∷ Some (using_put b x_name) ∷ []))
-  two_puts = splits 0 (stood 0 use_store (head.parallel new_put (using_put b x_name)) refl (itself (head.parallel new_put (using_put b x_name))))
+  abbrev held_b : Tree → Bool
+  held_b = marked left_a b true
 
-  key_made : ProcessStep g (store_of [] nothing_stored (Some new_put ∷ Some (using_put b x_name) ∷ [])) []
-      (store_of (0 ∷ []) nothing_stored (Some (using_put a (fresh 0)) ∷ Some (using_put b x_name) ∷ []))
-  key_made =
-      makes_name 0 0 (stood 0 new_put (head.act (new (named (codes "k") Fresh)) (using_put a (fresh_of (codes "k")))) refl
-      (itself (head.act (new (named (codes "k") Fresh)) (using_put a (fresh_of (codes "k")))))) (none_contained, none_contained)
+  abbrev left_b : Tree → Bool
+  left_b = marked held_b b false
 
-  first_put : ProcessStep g (store_of (0 ∷ []) nothing_stored (Some (using_put a (fresh 0)) ∷ Some (using_put b x_name) ∷ [])) []
-      (store_of (0 ∷ []) stored_a (Some (showing (put_at a (fresh 0))) ∷ Some (using_put b x_name) ∷ []))
+  put_starts : (t u : Tree) → StartsWith puts (using_put t u) (head.act (lock t 0) (inserting t u))
+  put_starts t u = use_of (sorted_definition putting) (first_item (sorted_definition putting) []) (itself (head.act (lock t 0) (inserting t u)))
+
+  value_made : ProcessStep g (store_of [] nothing_stored nothing_held (Some use_store ∷ [])) [] (store_of (0 ∷ []) nothing_stored nothing_held (Some (two_puts (fresh 0)) ∷ []))
+  value_made =
+      makes_name 0 0 (stood 0 use_store (head.act (new (named (codes "n") Fresh)) (two_puts (fresh_of (codes "n")))) refl
+      (itself (head.act (new (named (codes "n") Fresh)) (two_puts (fresh_of (codes "n")))))) (none_contained, none_contained)
+
+  both_run : ProcessStep g (store_of (0 ∷ []) nothing_stored nothing_held (Some (two_puts (fresh 0)) ∷ [])) []
+      (storing nothing_stored nothing_held (using_put a (fresh 0)) (using_put b x_name))
+  both_run =
+      splits 0 (stood 0 (two_puts (fresh 0)) (head.parallel (using_put a (fresh 0)) (using_put b x_name)) refl (itself (head.parallel (using_put a (fresh 0)) (using_put b x_name))))
+
+  first_locked : ProcessStep g (storing nothing_stored nothing_held (using_put a (fresh 0)) (using_put b x_name)) []
+      (storing nothing_stored held_a (inserting a (fresh 0)) (using_put b x_name))
+  first_locked =
+      locks 0 (stood 0 (using_put a (fresh 0)) (head.act (lock a 0) (inserting a (fresh 0))) refl (put_starts a (fresh 0))) (public_form normal g (codes "a")) refl
+
+  first_put : ProcessStep g (storing nothing_stored held_a (inserting a (fresh 0)) (using_put b x_name)) [] (storing stored_a held_a (telling_put a (fresh 0)) (using_put b x_name))
   first_put =
-      inserts 0 (stood 0 (using_put a (fresh 0)) (head.act (insert a (fresh 0)) (showing (put_at a (fresh 0)))) refl (put_starts a (fresh 0)))
+      inserts 0 (stood 0 (inserting a (fresh 0)) (head.act (insert a (fresh 0)) (telling_put a (fresh 0))) refl (itself (head.act (insert a (fresh 0)) (telling_put a (fresh 0)))))
       (public_form normal g (codes "a")) (fresh_form normal g 0)
 
-  first_shown : ProcessStep g (store_of (0 ∷ []) stored_a (Some (showing (put_at a (fresh 0))) ∷ Some (using_put b x_name) ∷ [])) (put_at a (fresh 0) ∷ [])
-      (store_of (0 ∷ []) stored_a (Some nil ∷ Some (using_put b x_name) ∷ []))
+  first_shown : ProcessStep g (storing stored_a held_a (telling_put a (fresh 0)) (using_put b x_name)) (put_at a (fresh 0) ∷ []) (storing stored_a held_a (unlocking a) (using_put b x_name))
   first_shown =
-      shows 0 (stood 0 (showing (put_at a (fresh 0))) (head.act (event (put_at a (fresh 0))) nil) refl (itself (head.act (event (put_at a (fresh 0))) nil)))
+      shows 0 (stood 0 (telling_put a (fresh 0)) (head.act (event (put_at a (fresh 0))) (unlocking a)) refl (itself (head.act (event (put_at a (fresh 0))) (unlocking a))))
       (shown_form a (fresh 0) (codes "Put") (public_form normal g (codes "a")) (fresh_form normal g 0))
 
-  second_put : ProcessStep g (store_of (0 ∷ []) stored_a (Some nil ∷ Some (using_put b x_name) ∷ [])) []
-      (store_of (0 ∷ []) stored_b (Some nil ∷ Some (showing (put_at b x_name)) ∷ []))
+  first_unlocked : ProcessStep g (storing stored_a held_a (unlocking a) (using_put b x_name)) [] (storing stored_a left_a nil (using_put b x_name))
+  first_unlocked = unlocks 0 (stood 0 (unlocking a) (head.act (unlock a 0) nil) refl (itself (head.act (unlock a 0) nil))) (public_form normal g (codes "a"))
+
+  second_locked : ProcessStep g (storing stored_a left_a nil (using_put b x_name)) [] (storing stored_a held_b nil (inserting b x_name))
+  second_locked =
+      locks 1 (stood 1 (using_put b x_name) (head.act (lock b 0) (inserting b x_name)) refl (put_starts b x_name)) (public_form normal g (codes "b")) refl
+
+  second_put : ProcessStep g (storing stored_a held_b nil (inserting b x_name)) [] (storing stored_b held_b nil (telling_put b x_name))
   second_put =
-      inserts 1 (stood 1 (using_put b x_name) (head.act (insert b x_name) (showing (put_at b x_name))) refl (put_starts b x_name))
+      inserts 1 (stood 1 (inserting b x_name) (head.act (insert b x_name) (telling_put b x_name)) refl (itself (head.act (insert b x_name) (telling_put b x_name))))
       (public_form normal g (codes "b")) (public_form normal g (codes "x"))
 
-  second_shown : ProcessStep g (store_of (0 ∷ []) stored_b (Some nil ∷ Some (showing (put_at b x_name)) ∷ [])) (put_at b x_name ∷ [])
-      (store_of (0 ∷ []) stored_b (Some nil ∷ Some nil ∷ []))
+  second_shown : ProcessStep g (storing stored_b held_b nil (telling_put b x_name)) (put_at b x_name ∷ []) (storing stored_b held_b nil (unlocking b))
   second_shown =
-      shows 1 (stood 1 (showing (put_at b x_name)) (head.act (event (put_at b x_name)) nil) refl (itself (head.act (event (put_at b x_name)) nil)))
+      shows 1 (stood 1 (telling_put b x_name) (head.act (event (put_at b x_name)) (unlocking b)) refl (itself (head.act (event (put_at b x_name)) (unlocking b))))
       (shown_form b x_name (codes "Put") (public_form normal g (codes "b")) (public_form normal g (codes "x")))
+
+  second_unlocked : ProcessStep g (storing stored_b held_b nil (unlocking b)) [] (storing stored_b left_b nil nil)
+  second_unlocked = unlocks 1 (stood 1 (unlocking b) (head.act (unlock b 0) nil) refl (itself (head.act (unlock b 0) nil))) (public_form normal g (codes "b"))
 
   pub store : IsFileTrace g (putting ∷ []) use_store ((put_at a (fresh 0) ∷ []) ∷ (put_at b x_name ∷ []) ∷ [])
   store = (
-    store_of (0 ∷ []) stored_b (Some nil ∷ Some nil ∷ []),
-    further (further (further (further (further (further starts two_puts) key_made) first_put) first_shown) second_put) second_shown,
+    storing stored_b left_b nil nil,
+    further
+        (further (further (further (further (further (further (further (further (further starts value_made) both_run) first_locked) first_put) first_shown) first_unlocked) second_locked) second_put)
+        second_shown)
+        second_unlocked,
   )
 
 -- ---- what the adversary makes

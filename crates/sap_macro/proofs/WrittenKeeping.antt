@@ -33,8 +33,8 @@ module _ (g : Sig) (ds : List Definition) (Q : Trace → List ℕ → Written �
   KeepsBehind tr m (send t u) p = ⊥
   KeepsBehind tr m (receive t u) p = ⊥
   KeepsBehind tr m (delete t) p = ⊥
-  KeepsBehind tr m (lock t k) p = ⊥
-  KeepsBehind tr m (unlock t k) p = ⊥
+  KeepsBehind tr m (lock t k) p = Q tr m p
+  KeepsBehind tr m (unlock t k) p = Q tr m p
   KeepsBehind tr m (embedded l e r) p = ⊥
 
   -- and behind the head
@@ -137,8 +137,10 @@ module _ (g : Sig) (ds : List Definition) (Q : Trace → List ℕ → Written �
     goes_on (deletes {c = c} {m = m} {p = p} t r i) tr all = absurd (behind tr c.made c.threads t (head.act (delete m) p) all r)
     goes_on (finds {c = c} {m = m} {x = x} {p = p} {q = q} t r i j) tr all = absurd (behind tr c.made c.threads t (head.lookup m x p q) all r)
     goes_on (misses {c = c} {m = m} {x = x} {p = p} {q = q} t r i j) tr all = absurd (behind tr c.made c.threads t (head.lookup m x p q) all r)
-    goes_on (locks {c = c} {m = m} {i = k} {p = p} t r i j) tr all = absurd (behind tr c.made c.threads t (head.act (lock m k) p) all r)
-    goes_on (unlocks {c = c} {m = m} {i = k} {p = p} t r i) tr all = absurd (behind tr c.made c.threads t (head.act (unlock m k) p) all r)
+    goes_on (locks {c = c} {m = m} {i = k} {p = p} t r i j) tr all =
+        quiet tr c.made (slice_set c.threads t (Some p)) (put tr c.made c.threads t (Some p) all (behind tr c.made c.threads t (head.act (lock m k) p) all r))
+    goes_on (unlocks {c = c} {m = m} {i = k} {p = p} t r i) tr all =
+        quiet tr c.made (slice_set c.threads t (Some p)) (put tr c.made c.threads t (Some p) all (behind tr c.made c.threads t (head.act (unlock m k) p) all r))
     goes_on (embeds {c = c} {l = l} {e = e} {r = rs} {p = p} t ks σ left acts right r m i j k o) tr all = absurd (behind tr c.made c.threads t (head.act (embedded l e rs) p) all r)
     goes_on (adversary_makes {c = c} k i) tr all = quiet tr c.made c.threads all
     goes_on (knows {c = c} x i) tr all = (

@@ -18,17 +18,17 @@ use Rattle.sap_terms.specs.Tree.{Tree, fresh, apply, trees_of}
 use Rattle.sap_terms.specs.Variables.{tree_vars}
 use Rattle.sap_terms.specs.declared.fact.Fact.{Fact}
 use Rattle.sap_terms.specs.declared.var.Sort.TheVariants.{Msg, Fresh}
-use Rattle.sap_process.specs.Action.{new, input, event, insert}
+use Rattle.sap_process.specs.Action.{new, input, event, insert, lock, unlock}
 use Rattle.sap_process.specs.Head as head
 use Rattle.sap_process.specs.Head.{Head}
 use Rattle.sap_process.specs.ProcessSteps.{chosen}
-use Rattle.sap_macro.specs.ExpansionExamples.{using_plain, a, b, of_name, fresh_of, news, taking}
+use Rattle.sap_macro.specs.ExpansionExamples.{using_plain, a, b, of_name, fresh_of, taking}
 use Rattle.sap_macro.specs.Instances.{instance_by}
 use Rattle.sap_macro.specs.NameExamples.{both}
 use Rattle.sap_macro.specs.SortedExamples.{using_b}
 use Rattle.sap_macro.specs.UpToNames.{named}
 use Rattle.sap_macro.specs.Written.{Written, nil, call, Definition}
-use Rattle.sap_macro.specs.WrittenExamples.{telling_x, use_twin, told, told_both, new_at, got_at, taking_twice, taking_other, use_taken, same_one, two_apart, put_at, showing, telling, using_a, using_put, use_a, naming_x, use_named, naming_z, naming_often, testing, use_testing, telling_y, use_plain, putting, x_name, use_store}
+use Rattle.sap_macro.specs.WrittenExamples.{telling_x, use_twin, told, told_both, new_at, got_at, taking_twice, taking_other, use_taken, same_one, two_apart, put_at, showing, telling, using_a, using_put, use_a, naming_x, use_named, naming_z, naming_often, testing, use_testing, telling_y, use_plain, unlocking, telling_put, inserting, putting, x_name, two_puts, use_store}
 use Rattle.sap_macro.specs.WrittenRuns.{StartsWith, sorted_definition, IsFileTrace}
 use Rattle.sap_macro.proofs.WrittenByHand.{other_name}
 use Rattle.sap_macro.proofs.WrittenHeads.{form_alone, use_alone}
@@ -211,7 +211,7 @@ module _ (unique : FormIsOne) (kept : EqualityIsKept) (g : Sig) where
       let clean = shows_none g plains Plain ToldVariable plain_holds (taking (of_name (codes "y")) (telling (of_name (codes "y")))) whole_plain tr is in
       (is_not_shown g plains Plain ToldVariable [] tr (told (of_name (codes "y")) ∷ []) clean m).1 refl
 
--- ---- let Put(key,value) = insert key, value; event Put(key,value); (new ~k; Put('a',~k)) | Put('b','x')
+-- ---- let Put(key,value) = lock key; insert key, value; event Put(key,value); unlock key; new ~n; ( Put('a',~n) | Put('b','x') )
 
 -- what the two uses put
 data Put : Tree → Tree → Type 0 where
@@ -220,16 +220,20 @@ data Put : Tree → Tree → Type 0 where
 
 data Putting : Trace → List ℕ → Written → Type 0 where
   whole_puts : {tr : Trace} {m : List ℕ} → Putting tr m use_store
-  first_puts : {tr : Trace} {m : List ℕ} → Putting tr m (news (codes "k") (using_put a (fresh_of (codes "k"))))
+  both_put : {tr : Trace} {m : List ℕ} (n : ℕ) → Putting tr m (two_puts (fresh n))
   puts_one : {tr : Trace} {m : List ℕ} {t u : Tree} → Put t u → Putting tr m (using_put t u)
-  shows_one : {tr : Trace} {m : List ℕ} {t u : Tree} → Put t u → Putting tr m (showing (put_at t u))
+  inserts_one : {tr : Trace} {m : List ℕ} {t u : Tree} → Put t u → Putting tr m (inserting t u)
+  shows_one : {tr : Trace} {m : List ℕ} {t u : Tree} → Put t u → Putting tr m (telling_put t u)
+  unlocks_one : {tr : Trace} {m : List ℕ} {t : Tree} → Putting tr m (unlocking t)
   ended_puts : {tr : Trace} {m : List ℕ} → Putting tr m nil
 
 stays_putting : {tr us : Trace} {m n : List ℕ} {w : Written} → Putting tr m w → Putting us n w
 stays_putting whole_puts = whole_puts
-stays_putting first_puts = first_puts
+stays_putting (both_put n) = both_put n
 stays_putting (puts_one p) = puts_one p
+stays_putting (inserts_one p) = inserts_one p
 stays_putting (shows_one p) = shows_one p
+stays_putting unlocks_one = unlocks_one
 stays_putting ended_puts = ended_puts
 
 module _ (normal : LeavesAreNormal) (unique : FormIsOne) (g : Sig) where
@@ -248,18 +252,21 @@ module _ (normal : LeavesAreNormal) (unique : FormIsOne) (g : Sig) where
 
   putting_heads : (tr : Trace) (m : List ℕ) (w : Written) (h : Head Written) → Putting tr m w → StartsWith putters w h → Keeps g putters Putting PutOther tr m h
   putting_heads tr m _ h whole_puts s =
-      subst (Keeps g putters Putting PutOther tr m) (sym (form_alone putters h (head.parallel (news (codes "k") (using_put a (fresh_of (codes "k")))) (using_put b x_name)) s))
-      (first_puts, puts_one b_x)
-  putting_heads tr m _ h first_puts s =
-      subst (Keeps g putters Putting PutOther tr m) (sym (form_alone putters h (head.act (new (named (codes "k") Fresh)) (using_put a (fresh_of (codes "k")))) s))
-      (λ n unused. puts_one (a_name n))
+      subst (Keeps g putters Putting PutOther tr m) (sym (form_alone putters h (head.act (new (named (codes "n") Fresh)) (two_puts (fresh_of (codes "n")))) s))
+      (λ n unused. both_put n)
+  putting_heads tr m _ h (both_put n) s =
+      subst (Keeps g putters Putting PutOther tr m) (sym (form_alone putters h (head.parallel (using_put a (fresh n)) (using_put b x_name)) s))
+      (puts_one (a_name n), puts_one b_x)
   putting_heads tr m _ h (puts_one {t = t} {u = u} p) s =
       subst (Keeps g putters Putting PutOther tr m)
-      (sym (form_alone putters h (head.act (insert t u) (showing (put_at t u))) (one_use (sorted_definition putting) (t ∷ u ∷ []) h s)))
-      (shows_one p)
+      (sym (form_alone putters h (head.act (lock t 0) (inserting t u)) (one_use (sorted_definition putting) (t ∷ u ∷ []) h s)))
+      (inserts_one p)
+  putting_heads tr m _ h (inserts_one {t = t} {u = u} p) s =
+      subst (Keeps g putters Putting PutOther tr m) (sym (form_alone putters h (head.act (insert t u) (telling_put t u)) s)) (shows_one p)
   putting_heads tr m _ h (shows_one {t = t} {u = u} p) s =
-      subst (Keeps g putters Putting PutOther tr m) (sym (form_alone putters h (head.act (event (put_at t u)) nil) s))
-      (λ k f. (λ e. let forms = forms_of_two g (codes "Put") (codes "Put") t u a x_name k f e in no_other_put p forms.1 forms.2, ended_puts))
+      subst (Keeps g putters Putting PutOther tr m) (sym (form_alone putters h (head.act (event (put_at t u)) (unlocking t)) s))
+      (λ k f. (λ e. let forms = forms_of_two g (codes "Put") (codes "Put") t u a x_name k f e in no_other_put p forms.1 forms.2, unlocks_one))
+  putting_heads tr m _ h (unlocks_one {t = t}) s = subst (Keeps g putters Putting PutOther tr m) (sym (form_alone putters h (head.act (unlock t 0) nil) s)) ended_puts
   putting_heads tr m _ h ended_puts s = subst (Keeps g putters Putting PutOther tr m) (sym (form_alone putters h head.nil s)) tt
 
   putting_holds : Holds g putters Putting PutOther

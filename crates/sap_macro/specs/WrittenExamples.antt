@@ -4,7 +4,7 @@ use Rattle.sap_terms.specs.AdversaryFacts.{linear}
 use Rattle.sap_terms.specs.Tree.{Tree, variable, public}
 use Rattle.sap_terms.specs.declared.fact.Fact.{Fact}
 use Rattle.sap_terms.specs.declared.var.Sort.TheVariants.{Pub}
-use Rattle.sap_process.specs.Action.{event, insert, embedded}
+use Rattle.sap_process.specs.Action.{event, insert, lock, unlock, embedded}
 use Rattle.sap_macro.specs.ExpansionExamples.{a, b, of_name, fresh_of, news, taking, with_x}
 use Rattle.sap_macro.specs.NameExamples.{both}
 use Rattle.sap_macro.specs.SortedExamples.{got}
@@ -143,14 +143,25 @@ telling_y = record { name = codes "C"; params = []; body = telling (of_name (cod
 abbrev pub use_plain : Written
 use_plain = taking (of_name (codes "y")) (call (codes "C") [])
 
--- let Put(key,value) = insert key, value; event Put(key,value)
+-- unlock t, and what stands before it: event Put(t,u), insert t, u, and lock t
+abbrev pub unlocking : Tree → Written
+unlocking t = act (unlock t 0) nil
+
+abbrev pub telling_put : Tree → Tree → Written
+telling_put t u = act (event (put_at t u)) (unlocking t)
+
+abbrev pub inserting : Tree → Tree → Written
+inserting t u = act (insert t u) (telling_put t u)
+
+abbrev pub locking : Tree → Tree → Written
+locking t u = act (lock t 0) (inserting t u)
+
+-- let Put(key,value) = lock key; insert key, value; event Put(key,value); unlock key
 abbrev pub putting : Definition
 putting = record {
   name = codes "Put";
   params = codes "key" ∷ codes "value" ∷ [];
-  body =
-      act (insert (of_name (codes "key")) (of_name (codes "value")))
-      (showing (put_at (of_name (codes "key")) (of_name (codes "value"))));
+  body = locking (of_name (codes "key")) (of_name (codes "value"));
 }
 
 -- in(<~x,x>); A(x)
@@ -162,9 +173,13 @@ use_twin =
 abbrev pub x_name : Tree
 x_name = public (codes "x")
 
--- (new ~k; Put('a',~k)) | Put('b','x')
+-- Put('a',t) | Put('b','x')
+abbrev pub two_puts : Tree → Written
+two_puts t = parallel (using_put a t) (using_put b x_name)
+
+-- new ~n; ( Put('a',~n) | Put('b','x') )
 abbrev pub use_store : Written
-use_store = parallel (news (codes "k") (using_put a (fresh_of (codes "k")))) (using_put b x_name)
+use_store = news (codes "n") (two_puts (fresh_of (codes "n")))
 
 -- w, and $w
 abbrev pub w : Tree
@@ -177,7 +192,14 @@ public_w = variable (named (codes "w") Pub)
 abbrev pub doing_nothing : Definition
 doing_nothing = record { name = codes "B"; params = codes "x" ∷ []; body = nil }
 
+-- [ l ] --[ e ]-> [ r ], and then p
+abbrev pub ruling : List Fact → List Fact → List Fact → Written → Written
+ruling l e r p = act (embedded l e r) p
+
+-- S(t) alone
+abbrev pub one_s : Tree → List Fact
+one_s t = linear (codes "S") (t ∷ []) ∷ []
+
 -- let A(x) = [ ] --[ S(x) ]-> [ ]
 abbrev pub ruling_x : Definition
-ruling_x =
-    with_x (act (embedded [] (linear (codes "S") (of_name (codes "x") ∷ []) ∷ []) []) nil)
+ruling_x = with_x (ruling [] (one_s (of_name (codes "x"))) [] nil)

@@ -1,5 +1,5 @@
 //! Small files by hand, as laws: what each shows as it is written, and what it doesn't.
-ghost use Rattle.std.specs.Prelude.{codes, List, [], ◌∷◌, Contains};
+ghost use Rattle.std.specs.Prelude.{codes, [], ◌∷◌, Contains};
 ghost use Rattle.sap_terms.specs.AdversaryFacts.{k_fact};
 ghost use Rattle.sap_terms.specs.Signature.{Sig, pairs_alone};
 ghost use Rattle.sap_terms.specs.Trace.{Trace};
@@ -10,7 +10,7 @@ ghost use Rattle.sap_macro.specs.ExpansionExamples.{a, b, of_name, comparing, ta
 ghost use Rattle.sap_macro.specs.NameExamples.{both};
 ghost use Rattle.sap_macro.specs.SortedExamples.{finds_x, using_b};
 ghost use Rattle.sap_macro.specs.Written.{nil, parallel, replicated, test};
-ghost use Rattle.sap_macro.specs.WrittenExamples.{telling_x, use_twin, told, told_both, new_at, got_at, same_one, two_apart, put_at, using_a, use_a, naming_x, use_named, naming_z, naming_often, taking_twice, taking_other, use_taken, testing, use_testing, telling_y, use_plain, putting, x_name, use_store, w, public_w, doing_nothing, ruling_x};
+ghost use Rattle.sap_macro.specs.WrittenExamples.{telling_x, use_twin, told, told_both, new_at, got_at, two_apart, put_at, using_a, use_a, naming_x, use_named, naming_z, naming_often, taking_twice, taking_other, use_taken, testing, use_testing, telling_y, use_plain, putting, x_name, use_store, w, public_w, doing_nothing, ruling, one_s, ruling_x};
 ghost use Rattle.sap_macro.specs.WrittenRuns.{HasArgumentsInScope, IsFileTrace};
 
 use sap_rewrite::{equality_is_kept, normal_forms_are_unique};
@@ -20,7 +20,7 @@ use sap_terms::leaves_are_normal;
 /// replicated use too; an argument that a use hands on reaches the inner body; the sort of a pattern's first occurrence counts, in a body
 /// and above a use; what a body's pattern binds isn't the argument of the same name; a test takes its parameters in their order; a name
 /// without parameters stands for its body before anything runs, so it sees what is bound above it, or the parameters of the body in which
-/// it stands; and an insertion has its own arguments.
+/// it stands; and of two uses side by side each locks, puts and shows its own arguments.
 pub fn files_by_hand_as_written()
     ensures new_names { (g : Sig) → IsFileTrace g (naming_x ∷ []) use_named ((told_both (fresh 0) (fresh 1) ∷ []) ∷ []) }
     ensures not_one_name { (g : Sig) (tr : Trace) (t : Tree) → IsFileTrace g (naming_x ∷ []) use_named tr → ¬ Contains tr (told_both t t ∷ []) }
@@ -54,7 +54,8 @@ pub fn files_by_hand_as_written()
 }
 
 /// A law: in each of these files a use names in its arguments what is in scope there; in a file with an argument that nothing binds it
-/// doesn't, whatever its definition does with it, and in whatever form the use stands.
+/// doesn't, whatever its definition does with it, and in whatever form the use stands. What an embedded rule names on its left, among
+/// its actions or on its right is in scope behind it; an argument that the body of the definition puts into one isn't, at the use.
 pub fn arguments_of_files_by_hand()
     ensures new_names { HasArgumentsInScope [] (plain (naming_x ∷ []) use_named) }
     ensures each_copy { HasArgumentsInScope [] (plain (naming_z ∷ naming_often ∷ []) use_a) }
@@ -77,5 +78,9 @@ pub fn arguments_of_files_by_hand()
     ensures not_found { ¬ HasArgumentsInScope [] (finds_x Msg (using_b w) nil) }
     ensures not_missed { ¬ HasArgumentsInScope [] (finds_x Msg nil (using_b w)) }
     ensures not_behind { ¬ HasArgumentsInScope [] (taking a (using_b w)) }
+    ensures ruled_above { HasArgumentsInScope [] (plain (ruling_x ∷ []) (ruling [] (one_s public_w) [] (using_a public_w))) }
+    ensures taken_above { HasArgumentsInScope [] (plain (ruling_x ∷ []) (ruling (one_s public_w) [] [] (using_a public_w))) }
+    ensures added_above { HasArgumentsInScope [] (plain (ruling_x ∷ []) (ruling [] [] (one_s public_w) (using_a public_w))) }
+    ensures not_ruled_above { ¬ HasArgumentsInScope [] (plain (ruling_x ∷ []) (ruling [] (one_s a) [] (using_a public_w))) }
     ensures not_ruled { ¬ HasArgumentsInScope [] (plain (ruling_x ∷ []) (using_a public_w)) }
 {}

@@ -64,3 +64,15 @@ returns-clause-not_missed c = λ h. false≢true h.1.0
 
 pub returns-clause-not_behind : goal.returns-clause-not_behind
 returns-clause-not_behind c = λ h. false≢true h.0
+
+pub returns-clause-ruled_above : goal.returns-clause-ruled_above
+returns-clause-ruled_above c = (refl, tt)
+
+pub returns-clause-taken_above : goal.returns-clause-taken_above
+returns-clause-taken_above c = (refl, tt)
+
+pub returns-clause-added_above : goal.returns-clause-added_above
+returns-clause-added_above c = (refl, tt)
+
+pub returns-clause-not_ruled_above : goal.returns-clause-not_ruled_above
+returns-clause-not_ruled_above c = λ h. false≢true h.0
