@@ -21,8 +21,9 @@ use Rattle.sap_terms.specs.declared.var.Sort.{Sort}
 use Rattle.sap_process.specs.Action.{new, out, send, input, receive, event, insert, delete, lock, unlock, embedded}
 use Rattle.sap_process.specs.Configuration.{Config, initial, Runs, becomes, spawns, makes, sends_out, stored, stores, holding, leaves, IsUnused, CanGive}
 use Rattle.sap_process.specs.Proc.{Proc, nil, parallel, replicated, act, test, lookup}
-use Rattle.sap_process.specs.ProcessSteps.{ProcessStep, ends, splits, copies, makes_name, outputs, outputs_on, inputs, inputs_on, meets, agrees, differs, shows, inserts, deletes, finds, misses, locks, unlocks, embeds, adversary_makes, knows, ProcessRun, starts, further, IsProcessTrace, Fits, with_choice, with_term}
-use Rattle.sap_macro.specs.UpToNames.{named, fact, Pair, pair_of, AreAlikeTerms, both_variable, both_public, both_fresh, both_apply, AreAlikeLists, both_none, both_more, AreAlikePatterns, AreAlikeFacts, facts_end, facts_go_on, both_new, both_out, both_send, both_input, both_receive, both_event, both_insert, both_delete, both_lock, both_unlock, both_embedded, AreAlike, both_nil, both_parallel, both_replicated, both_act, both_test, both_lookup}
+use Rattle.sap_process.specs.ProcessSteps.{ProcessStep, ends, splits, copies, makes_name, outputs, outputs_on, inputs, inputs_on, meets, agrees, differs, shows, inserts, deletes, finds, misses, locks, unlocks, embeds, adversary_makes, knows, ProcessRun, starts, further, Fits, with_choice, with_term}
+use Rattle.sap_macro.specs.AlikeConfigurations.{AlikeThread, both_ended, both_run, AlikeThreads, no_thread, one_thread, HasGroundStore, AreAlikeConfigs}
+use Rattle.sap_macro.specs.UpToNames.{named, fact, Pair, pair_of, AreAlikeTerms, both_variable, both_public, both_fresh, both_apply, AreAlikeLists, both_none, both_more, AreAlikePatterns, AreAlikeFacts, facts_end, facts_go_on, both_new, both_out, both_send, both_input, both_receive, both_event, both_insert, both_delete, both_lock, both_unlock, both_embedded, AreAlike, both_nil, both_parallel, both_replicated, both_act, both_test, both_lookup, AreSameUpToNames}
 use Rattle.sap_macro.proofs.Choosing.{vars_end, new_var, AreLinked, taken_over, are_linked, chosen_alike, one_instance, one_fact_list, pattern_vars, fact_vars, stay_bound}
 
 -- ---- terms in which nothing is bound
@@ -58,14 +59,6 @@ join_facts _ ξ ζ _ _ ks ds (facts_go_on {ξ = η} {fs = fs} {hs = hs} h l) k =
 
 -- ---- threads
 
-pub data AlikeThread : Option Proc → Option Proc → Type 0 where
-  both_ended : AlikeThread None None
-  both_run : {p q : Proc} → AreAlike [] p q → AlikeThread (Some p) (Some q)
-
-pub data AlikeThreads : List (Option Proc) → List (Option Proc) → Type 0 where
-  no_thread : AlikeThreads [] []
-  one_thread : {o u : Option Proc} {os us : List (Option Proc)} → AlikeThread o u → AlikeThreads os us → AlikeThreads (o ∷ os) (u ∷ us)
-
 run_of : (o u : Option Proc) (p : Proc) → AlikeThread o u → o ≡ Some p → (q : Proc) × (u ≡ Some q) × AreAlike [] p q
 run_of _ _ p both_ended e = cc
 run_of _ _ p (both_run {p = r} {q = q} h) e = let f : r ≡ p = cc in (q, refl, subst (λ z. AreAlike [] z q) f h)
@@ -86,10 +79,6 @@ put _ _ (one_thread {os = os} {us = us} k l) (suc t) o u h = one_thread k (put o
 pushed : (os us : List (Option Proc)) → AlikeThreads os us → (p q : Proc) → AreAlike [] p q → AlikeThreads (os ++ Some p ∷ []) (us ++ Some q ∷ [])
 pushed _ _ no_thread p q h = one_thread (both_run h) no_thread
 pushed _ _ (one_thread {os = os} {us = us} k l) p q h = one_thread k (pushed os us l p q h)
-
--- what the store has is ground
-abbrev pub HasGroundStore : Config → Type 0
-HasGroundStore c = (k v : Tree) → c.store k ≡ Some v → IsGround v
 
 -- the same step with other threads, which stay alike
 pub record Follows (g : Sig) (c : Config) (us : List (Option Proc)) (label : List Fact) (d : Config) : Type 0 where
@@ -344,19 +333,33 @@ module _ (g : Sig) (ground_form : (t n : Tree) → IsGround t → IsNormalForm (
   follows _ _ _ us (adversary_makes {c = c} n i) w s = record { threads = us; step = adversary_makes n i; alike = w; ground = s }
   follows _ _ _ us (knows {c = c} x i) w s = record { threads = us; step = knows x (given g ground_form c us w s x i); alike = w; ground = s }
 
-  -- the same run with other threads
-  record FollowsRun (q : Proc) (tr : Trace) (c : Config) : Type 0 where
+  -- the same run from other threads
+  record FollowsRun (c : Config) (us : List (Option Proc)) (tr : Trace) (e : Config) : Type 0 where
     pub threads : List (Option Proc)
-    pub run : ProcessRun g (initial q) (record c { threads = threads }) tr
-    pub alike : AlikeThreads c.threads threads
-    pub ground : HasGroundStore c
+    pub run : ProcessRun g (record c { threads = us }) (record e { threads = threads }) tr
+    pub alike : AlikeThreads e.threads threads
+    pub ground : HasGroundStore e
 
-  runs : (p q : Proc) (tr : Trace) (c : Config) → AreAlike [] p q → ProcessRun g (initial p) c tr → FollowsRun q tr c
-  runs p q _ _ h starts = record { threads = Some q ∷ []; run = starts; alike = one_thread (both_run h) no_thread; ground = λ k v e. cc }
-  runs p q _ _ h (further {c = c} {d = d} {tr = tr} {label = label} r i) =
-      let before = runs p q tr c h r in
-      let later = follows c d label before.threads i before.alike before.ground in
+  follows_run : (c e : Config) (us : List (Option Proc)) (tr : Trace) → AlikeThreads c.threads us → HasGroundStore c → ProcessRun g c e tr → FollowsRun c us tr e
+  follows_run c _ us _ w s starts = record { threads = us; run = starts; alike = w; ground = s }
+  follows_run c _ us _ w s (further {c = d} {d = e} {tr = tr} {label = label} r i) =
+      let before = follows_run c d us tr w s r in
+      let later = follows d e label before.threads i before.alike before.ground in
       record { threads = later.threads; run = further before.run later.step; alike = later.alike; ground = later.ground }
 
-  pub traces : (p q : Proc) (tr : Trace) → AreAlike [] p q → IsProcessTrace g p tr → IsProcessTrace g q tr
-  traces p q tr h t = let r = runs p q tr t.0 h t.1 in (record t.0 { threads = r.threads }, r.run)
+  -- each step, and each run, from a configuration that is alike
+  pub alike_step : (c d e : Config) (label : List Fact) → AreAlikeConfigs c d → ProcessStep g c label e → (f : Config) × AreAlikeConfigs e f × ProcessStep g d label f
+  alike_step c d e label w i =
+      let k = follows c e label d.threads i w.threads w.ground in
+      let f : Config = record e { threads = k.threads } in
+      (f, record { threads = k.alike; else_one = refl; ground = k.ground }, subst (λ z. ProcessStep g z label f) w.else_one k.step)
+
+  pub alike_run : (c d e : Config) (tr : Trace) → AreAlikeConfigs c d → ProcessRun g c e tr → (f : Config) × AreAlikeConfigs e f × ProcessRun g d f tr
+  alike_run c d e tr w r =
+      let k = follows_run c e d.threads tr w.threads w.ground r in
+      let f : Config = record e { threads = k.threads } in
+      (f, record { threads = k.alike; else_one = refl; ground = k.ground }, subst (λ z. ProcessRun g z f tr) w.else_one k.run)
+
+-- where processes that are equal up to names begin
+pub alike_starts : (p q : Proc) → AreSameUpToNames p q → AreAlikeConfigs (initial p) (initial q)
+alike_starts p q h = record { threads = one_thread (both_run h) no_thread; else_one = refl; ground = λ k v e. cc }

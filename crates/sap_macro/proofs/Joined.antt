@@ -127,3 +127,20 @@ joined ρ ξ ζ _ _ _ j (both_lookup {t = t} {v = v} {x = x} {y = y} {p = p} {q 
 -- processes that are equal up to names to one process are equal up to names
 pub one_behind_other : (p q r : Proc) → AreAlike [] p q → AreAlike [] q r → AreAlike [] p r
 one_behind_other p q r h k = joined [] [] [] p q r none_joined h k
+
+-- pairs with the left names of the first and the right names of the second are both joined, where they meet
+are_joined : (ρ ξ ζ : List Pair) → rights ρ ≡ lefts ξ → lefts ζ ≡ lefts ρ → rights ζ ≡ rights ξ → AreJoined ρ ξ ζ
+are_joined [] [] [] h k l = none_joined
+are_joined [] [] (s ∷ ζ) h k l = absurd (cc)
+are_joined [] (q ∷ ξ) ζ h k l = absurd (cc)
+are_joined (p ∷ ρ) [] ζ h k l = absurd (cc)
+are_joined (p ∷ ρ) (q ∷ ξ) [] h k l = absurd (cc)
+are_joined (p ∷ ρ) (q ∷ ξ) (s ∷ ζ) h k l =
+    let meet : p.right ≡ q.left = cc in
+    let left : p.left ≡ s.left = cc in
+    let right : q.right ≡ s.right = cc in
+    let later : AreJoined ρ ξ ζ = are_joined ρ ξ ζ (cc) (cc) (cc) in
+    subst (λ z. AreJoined (p ∷ ρ) (q ∷ ξ) (z ∷ ζ)) (λ i. pair_of (left i) (right i)) (one_joined meet later)
+
+pub through_a_third : (ρ ξ ζ : List Pair) (p q r : Proc) → rights ρ ≡ lefts ξ → lefts ζ ≡ lefts ρ → rights ζ ≡ rights ξ → AreAlike ρ p q → AreAlike ξ q r → AreAlike ζ p r
+through_a_third ρ ξ ζ p q r h k l a b = joined ρ ξ ζ p q r (are_joined ρ ξ ζ h k l) a b

@@ -1,11 +1,13 @@
 pub mod ByHand
 pub mod WrittenByHand
+pub mod AlikeByHand
 pub mod Names
 pub mod Moving
 pub mod Choosing
 pub mod Swapped
 pub mod GroundForms
 pub mod Following
+pub mod AlikeSides
 pub mod NewNames
 pub mod Scopes
 pub mod Commuting

@@ -21,6 +21,7 @@ use Rattle.sap_process.specs.Proc as whole
 use Rattle.sap_process.specs.Proc.{Proc}
 use Rattle.sap_process.specs.ProcessSteps.{chosen}
 use Rattle.sap_process.specs.Sites.{var_names}
+use Rattle.sap_macro.specs.AlikeConfigurations.{AlikeThread, both_ended, both_run, AlikeThreads, no_thread, one_thread}
 use Rattle.sap_macro.specs.Expansion.{Expanded, binders, binding, binding_vars, bound_by, bound_in, behind, entered, expanded, meaning_of, put, same_name, scope_behind, unchanged}
 use Rattle.sap_macro.specs.Instances.{IsOverScope, IsClosed, AreClosedAmong, AreTaken, Keeps, instance_by, written_instance}
 use Rattle.sap_macro.specs.Order.{AreInOrder, UsesOnly}
@@ -32,7 +33,6 @@ use Rattle.sap_macro.proofs.Closed.{Split, binders_rest, closed_rest}
 use Rattle.sap_macro.proofs.Commuting.{taken_grows}
 use Rattle.sap_macro.proofs.Continuing.{closed_here, taken_here}
 use Rattle.sap_macro.proofs.Definitions.{known_of}
-use Rattle.sap_macro.proofs.Following.{AlikeThread, both_ended, both_run, AlikeThreads, no_thread, one_thread}
 use Rattle.sap_macro.proofs.Joined.{one_behind_other}
 use Rattle.sap_macro.proofs.Kept.{each_kept, action_kept, kept}
 use Rattle.sap_macro.proofs.OrderedMeanings.{closed_body, instance_among, means, steady_of}

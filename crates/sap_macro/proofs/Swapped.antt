@@ -1,5 +1,5 @@
 -- What is equal up to names is so from both sides.
-use Rattle.std.proofs.Common.{◌≡◌, ℕ, List, [], ◌∷◌, refl, ap, ◌∙◌}
+use Rattle.std.proofs.Common.{◌≡◌, ℕ, List, [], ◌∷◌, refl, ap, ◌∙◌, subst}
 use Rattle.sap_terms.specs.Tree.{Tree, Trees, trees_of}
 use Rattle.sap_terms.specs.Variables.{is_known}
 use Rattle.sap_terms.specs.declared.fact.Fact.{Fact}
@@ -7,6 +7,7 @@ use Rattle.sap_process.specs.Action.{Action}
 use Rattle.sap_process.specs.Proc.{Proc}
 use Rattle.sap_macro.specs.UpToNames.{Pair, pair_of, lefts, rights, HaveOneBinder, here, above, AreAlikeTerms, both_variable, both_public, both_fresh, both_apply, AreAlikeLists, both_none, both_more, AreAlikePatterns, old_name, new_name, one_public, one_fresh, one_symbol, AreAlikeRows, row_ends, row_goes_on, AreAlikeFacts, facts_end, facts_go_on, AreAlikeActions, both_new, both_out, both_send, both_input, both_receive, both_event, both_insert, both_delete, both_lock, both_unlock, both_embedded, AreAlike, both_nil, both_parallel, both_replicated, both_act, both_test, both_lookup}
 
+-- the pairs from the other side
 abbrev swapped : List Pair → List Pair
 swapped [] = []
 swapped (p ∷ ρ) = pair_of p.right p.left ∷ swapped ρ
@@ -75,3 +76,17 @@ other_side _ _ _ (both_test {ρ = ρ} {t = t} {u = u} {v = v} {w = w} {p = p} {q
     both_test (terms ρ t v h) (terms ρ u w i) (other_side ρ p a j) (other_side ρ q b k)
 other_side _ _ _ (both_lookup {ρ = ρ} {t = t} {v = v} {x = x} {y = y} {p = p} {q = q} {a = a} {b = b} h k l) =
     both_lookup (terms ρ t v h) (other_side (pair_of x y ∷ ρ) p a k) (other_side ρ q b l)
+
+-- pairs that have the names of the other side are these
+pub are_swapped : (ρ ξ : List Pair) → lefts ξ ≡ rights ρ → rights ξ ≡ lefts ρ → swapped ρ ≡ ξ
+are_swapped [] [] h k = refl
+are_swapped [] (q ∷ ξ) h k = cc
+are_swapped (p ∷ ρ) [] h k = cc
+are_swapped (p ∷ ρ) (q ∷ ξ) h k =
+    let left : p.right ≡ q.left = cc in
+    let right : p.left ≡ q.right = cc in
+    let later : swapped ρ ≡ ξ = are_swapped ρ ξ (cc) (cc) in
+    λ i. pair_of (left i) (right i) ∷ later i
+
+pub with_other_pairs : (ρ ξ : List Pair) (p q : Proc) → lefts ξ ≡ rights ρ → rights ξ ≡ lefts ρ → AreAlike ρ p q → AreAlike ξ q p
+with_other_pairs ρ ξ p q h k a = subst (λ z. AreAlike z q p) (are_swapped ρ ξ h k) (other_side ρ p q a)

@@ -21,6 +21,7 @@ use Rattle.sap_process.specs.Head.{Head}
 use Rattle.sap_process.specs.Proc as whole
 use Rattle.sap_process.specs.Proc.{Proc}
 use Rattle.sap_process.specs.ProcessSteps.{ProcessStep, ends, splits, copies, makes_name, outputs, outputs_on, inputs, inputs_on, meets, agrees, differs, shows, inserts, deletes, finds, misses, locks, unlocks, embeds, adversary_makes, knows, ProcessRun, starts, further, IsProcessTrace, Fits, chosen, with_choice, with_term}
+use Rattle.sap_macro.specs.AlikeConfigurations.{both_ended, both_run, AlikeThreads, no_thread, one_thread, HasGroundStore}
 use Rattle.sap_macro.specs.Expansion.{binding_vars}
 use Rattle.sap_macro.specs.Indexed.{defined}
 use Rattle.sap_macro.specs.Instances.{written_instance}
@@ -28,8 +29,9 @@ use Rattle.sap_macro.specs.Order.{UsesOnly}
 use Rattle.sap_macro.specs.UpToNames.{AreAlike}
 use Rattle.sap_macro.specs.Written.{Written, act, lookup}
 use Rattle.sap_macro.specs.WrittenRuns.{StartsWith, written_of, StandsAs, writing, IsWrittenTrace}
+use Rattle.sap_macro.proofs.AlikeSides.{other_threads}
 use Rattle.sap_macro.proofs.DefinedNames.{in_both, among_second, uses_both, closed_among_defined}
-use Rattle.sap_macro.proofs.Following.{AlikeThread, both_ended, both_run, AlikeThreads, no_thread, one_thread, HasGroundStore, follows}
+use Rattle.sap_macro.proofs.Following.{follows}
 use Rattle.sap_macro.proofs.RunningTrees.{Setting, tree_of_written, taken_behind, IsReady, RunsAs, head_runs, head_tree, head_tree_is, itself_expanded, left_part, right_part, copied_part, where_equal, where_other, where_missing, behind_plain, bound_rest, found_rest, both_over, both_go, RunAsThreads, no_more, one_more, in_place, spawned, all_then}
 use Rattle.sap_macro.proofs.WrittenHeads.{heads_are_there, uses_more}
 use Rattle.sap_macro.proofs.Swapped.{other_side}
@@ -439,14 +441,6 @@ module _ (S : Setting) (known : (f : List ℕ) → is_known S.names f ≡ true �
   comes_from _ _ _ os (knows {c = c} x i) w s h = record { threads = os; step = knows x (given c os w s h x i); running = s }
 
   -- ---- any trees that threads run as
-
-  other_thread : (o u : Option Proc) → AlikeThread o u → AlikeThread u o
-  other_thread _ _ both_ended = both_ended
-  other_thread _ _ (both_run {p = p} {q = q} h) = both_run (other_side [] p q h)
-
-  other_threads : (os us : List (Option Proc)) → AlikeThreads os us → AlikeThreads us os
-  other_threads _ _ no_thread = no_thread
-  other_threads _ _ (one_thread {o = o} {u = u} {os = os} {us = us} h l) = one_thread (other_thread o u h) (other_threads os us l)
 
   -- a step of trees is one of what is written, to where threads run as the trees behind
   pub record StepsBack (c : Config) (os : List (Option Written)) (label : List Fact) (d : Config) : Type 0 where

@@ -20,12 +20,13 @@ use Rattle.sap_process.specs.Instance.{process_instance}
 use Rattle.sap_process.specs.Proc as whole
 use Rattle.sap_process.specs.Proc.{Proc}
 use Rattle.sap_process.specs.ProcessSteps.{ProcessStep, ends, splits, copies, makes_name, outputs, outputs_on, inputs, inputs_on, meets, agrees, differs, shows, inserts, deletes, finds, misses, locks, unlocks, embeds, adversary_makes, knows, Fits, chosen}
+use Rattle.sap_macro.specs.AlikeConfigurations.{AlikeThreads}
 use Rattle.sap_macro.specs.Expansion.{binding_vars}
 use Rattle.sap_macro.specs.Instances.{written_instance}
 use Rattle.sap_macro.specs.UpToNames.{AreAlike, both_act, both_send}
 use Rattle.sap_macro.specs.Written.{Written}
 use Rattle.sap_macro.specs.WrittenRuns.{StandsAs, writing}
-use Rattle.sap_macro.proofs.Following.{AlikeThreads, follows}
+use Rattle.sap_macro.proofs.Following.{follows}
 use Rattle.sap_macro.proofs.RunningTrees.{Setting, tree_of_written, taken_behind, head_tree, itself_expanded, left_part, right_part, copied_part, where_equal, where_other, where_missing, behind_plain, bound_rest, found_rest, RunsAsThread, both_over, both_go, RunAsThreads, alike_threads, with_other, other_with, stands_there, in_place, spawned, all_then, with_trees, Running, Found, found_head, turned_alike}
 use Rattle.sap_macro.proofs.Swapped.{other_side}
 

@@ -1,5 +1,7 @@
 pub mod UpToNames
 pub mod NameExamples
+pub mod AlikeConfigurations
+pub mod AlikeExamples
 pub mod Written
 pub mod Walked
 pub mod NewNames

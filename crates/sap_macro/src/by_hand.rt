@@ -1,23 +1,28 @@
 //! Small processes by hand, as laws.
-ghost use Rattle.std.specs.Prelude.{◌≡◌, codes, List, [], ◌∷◌, None, Some};
+ghost use Rattle.std.specs.Prelude.{◌≡◌, ℕ, codes, Contains, List, [], ◌∷◌, None, Some};
 ghost use Rattle.sap_terms.specs.Signature.{Sig};
+ghost use Rattle.sap_terms.specs.Trace.{Trace};
 ghost use Rattle.sap_terms.specs.Tree.{Tree, fresh, public};
 ghost use Rattle.sap_terms.specs.declared.fact.Fact.{Fact};
 ghost use Rattle.sap_process.specs.Action.{event, out};
-ghost use Rattle.sap_process.specs.Configuration.{ConfigOf, initial, makes as makes_name, spawns};
+ghost use Rattle.sap_process.specs.Configuration.{Config, ConfigOf, initial, makes as makes_name, spawns};
 ghost use Rattle.sap_process.specs.Head as head;
 ghost use Rattle.sap_process.specs.Head.{Head};
 ghost use Rattle.sap_process.specs.Proc as whole;
-ghost use Rattle.sap_process.specs.ProcessSteps.{ProcessStep};
+ghost use Rattle.sap_process.specs.ProcessSteps.{ProcessStep, ProcessRun};
+ghost use Rattle.sap_process.specs.StepExamples.{alone, only, shown_fact};
+ghost use Rattle.sap_macro.specs.AlikeConfigurations.{AlikeThreads, HasGroundStore};
+ghost use Rattle.sap_macro.specs.AlikeExamples.{alike_lists, other_lists, AreAllAlike, AreNoneAlike, storing, looking};
 ghost use Rattle.sap_macro.specs.Expansion.{expansion};
 ghost use Rattle.sap_macro.specs.ExpansionExamples.{a, b, of_name, fresh_of, news, taking, makes, takes, gives, making, making_twice, making_x, comparing, pairing, giving_y, using_plain, inner, outer, all_forms, all_forms_put, twice_two, twice_z, using_wrongly, using_none, in_first, in_second};
 ghost use Rattle.sap_macro.specs.MacroCauses.{first_other_count, first_parameter_twice};
-ghost use Rattle.sap_macro.specs.NameExamples.{both, AreAllSame, AreNoneSame, equal_pairs, other_pairs};
+ghost use Rattle.sap_macro.specs.NameExamples.{x, fresh_y, both, AreAllSame, AreNoneSame, equal_pairs, other_pairs};
 ghost use Rattle.sap_macro.specs.NewNames.{new_name};
 ghost use Rattle.sap_macro.specs.Written.{Written, nil, call, parallel};
 ghost use Rattle.sap_macro.specs.WrittenExamples.{told, telling, telling_x, telling_again, told_by_two, use_a, use_b, use_c};
 ghost use Rattle.sap_macro.specs.WrittenRuns.{StartsWith, IsWrittenTrace, writing};
 
+use sap_rewrite::normal_forms_are_unique;
 use sap_terms::leaves_are_normal;
 
 /// A law: eight pairs of processes that are equal up to names, and fourteen that aren't.
@@ -25,6 +30,24 @@ pub fn equal_up_to_names_by_hand()
     ensures equal { AreAllSame equal_pairs }
     ensures other { AreNoneSame other_pairs }
 {}
+
+/// A law: small configurations with threads that are alike, and some without; a store that is ground, whatever its keys, and one that
+/// isn't. And why the store has to be ground: where it has `~y` at `'a'`, the threads `lookup 'a' as x in new ~y; event A(x)` and the
+/// same with `new ~z` are equal up to names, but the first shows the name that it makes, and the second shows no name.
+pub fn alike_configurations_by_hand()
+    ensures alike { AreAllAlike alike_lists }
+    ensures other { AreNoneAlike other_lists }
+    ensures ground { HasGroundStore (storing (both a (fresh 3)) whole.nil) }
+    ensures any_key { HasGroundStore (record (alone whole.nil) { store = only x a }) }
+    ensures no_ground { ¬ HasGroundStore (storing (both a x) whole.nil) }
+    ensures looks_alike { AlikeThreads (storing fresh_y (looking (codes "y"))).threads (storing fresh_y (looking (codes "z"))).threads }
+    ensures shows_new { (g : Sig) → (d : Config) × ProcessRun g (storing fresh_y (looking (codes "y"))) d ((shown_fact (fresh 7) ∷ []) ∷ []) }
+    ensures never_shows_new { (g : Sig) (d : Config) (tr : Trace) (n : ℕ) → ProcessRun g (storing fresh_y (looking (codes "z"))) d tr
+        → ¬ Contains tr (shown_fact (fresh n) ∷ []) }
+{
+    leaves_are_normal();
+    normal_forms_are_unique();
+}
 
 /// A law: expansions of small files. What a use's body binds gets new names, the first that aren't taken, one for each name and use,
 /// in the order of their first binders, and uses inside of it later ones; the names of arguments stay what they are. Parameters are

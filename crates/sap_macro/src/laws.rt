@@ -6,9 +6,12 @@ ghost use Rattle.sap_terms.specs.Signature.{Sig};
 ghost use Rattle.sap_terms.specs.Trace.{Trace};
 ghost use Rattle.sap_terms.specs.Tree.{Tree, trees_of};
 ghost use Rattle.sap_terms.specs.Variables.{is_known};
+ghost use Rattle.sap_terms.specs.declared.fact.Fact.{Fact};
+ghost use Rattle.sap_process.specs.Configuration.{Config, initial};
 ghost use Rattle.sap_process.specs.Instance.{process_instance};
 ghost use Rattle.sap_process.specs.Proc.{Proc, level_count, node_count};
-ghost use Rattle.sap_process.specs.ProcessSteps.{IsProcessTrace};
+ghost use Rattle.sap_process.specs.ProcessSteps.{ProcessStep, ProcessRun, IsProcessTrace};
+ghost use Rattle.sap_macro.specs.AlikeConfigurations.{AreAlikeConfigs};
 ghost use Rattle.sap_macro.specs.Expansion.{meaning_of, entered, expanded, expansion, plain, plain_after, plain_bodies, unchanged, same_name, where_none, with_plain_body};
 ghost use Rattle.sap_macro.specs.Indexed.{defined};
 ghost use Rattle.sap_macro.specs.Instances.{instance_by, IsClosed, AreClosedAmong, Keeps, AreTaken};
@@ -16,18 +19,45 @@ ghost use Rattle.sap_macro.specs.NewNames.{IsNewName, candidate, new_name};
 ghost use Rattle.sap_macro.specs.Order.{AreInOrder, UsesOnly, with_parameters};
 ghost use Rattle.sap_macro.specs.Replaced.{AreWithoutParameters, nothing_stands, process_of};
 ghost use Rattle.sap_macro.specs.Seen.{seen};
-ghost use Rattle.sap_macro.specs.UpToNames.{AreSameUpToNames};
+ghost use Rattle.sap_macro.specs.UpToNames.{Pair, lefts, rights, AreAlike, AreSameUpToNames};
 ghost use Rattle.sap_macro.specs.UsesAreInstances.{UsesAreInstances};
 ghost use Rattle.sap_macro.specs.Written.{Written, call, Definition};
 
 use sap_rewrite::{equality_is_kept, normal_forms_are_unique};
 
+/// A law: equal up to names is so from both sides, and goes through a third. Where names are bound above, their pairs change sides; of
+/// three processes the pairs of the first two have those names on the right that the pairs of the last two have on the left, and the
+/// outer ones are what is left. So of whole processes it is symmetric and transitive. It isn't reflexive: a name that nothing binds is
+/// equal to nothing (`equal_up_to_names_by_hand`).
+pub fn same_up_to_names_is_symmetric_and_transitive()
+    ensures other_side { (ρ ξ : List Pair) (p q : Proc) → lefts ξ ≡ rights ρ → rights ξ ≡ lefts ρ → AreAlike ρ p q → AreAlike ξ q p }
+    ensures third { (ρ ξ ζ : List Pair) (p q r : Proc) → rights ρ ≡ lefts ξ → lefts ζ ≡ lefts ρ → rights ζ ≡ rights ξ
+        → AreAlike ρ p q → AreAlike ξ q r → AreAlike ζ p r }
+    ensures symmetric { (p q : Proc) → AreSameUpToNames p q → AreSameUpToNames q p }
+    ensures transitive { (p q r : Proc) → AreSameUpToNames p q → AreSameUpToNames q r → AreSameUpToNames p r }
+{}
+
+/// A law: configurations whose threads are equal up to names, one by one, and which are else one, show the same from there on, whatever
+/// is known, held and left of facts, where the store is ground: each step and each run from the one has its like from the other, and
+/// both lead to such configurations again. Alike is so from both sides. Where the store isn't ground it fails
+/// (`alike_configurations_by_hand`).
+pub fn alike_configurations_show_the_same()
+    ensures steps { (g : Sig) (c d e : Config) (label : List Fact) → AreAlikeConfigs c d → ProcessStep g c label e
+        → (f : Config) × AreAlikeConfigs e f × ProcessStep g d label f }
+    ensures runs { (g : Sig) (c d e : Config) (tr : Trace) → AreAlikeConfigs c d → ProcessRun g c e tr
+        → (f : Config) × AreAlikeConfigs e f × ProcessRun g d f tr }
+    ensures other_side { (c d : Config) → AreAlikeConfigs c d → AreAlikeConfigs d c }
+    ensures starts { (p q : Proc) → AreSameUpToNames p q → AreAlikeConfigs (initial p) (initial q) }
+{
+    equality_is_kept();
+    normal_forms_are_unique();
+}
+
 /// A law: of processes that are equal up to names each trace of the one is one of the other.
 pub fn same_up_to_names_show_the_same()
     ensures { (g : Sig) (p q : Proc) (tr : Trace) → AreSameUpToNames p q → IsProcessTrace g p tr ↔ IsProcessTrace g q tr }
 {
-    equality_is_kept();
-    normal_forms_are_unique();
+    alike_configurations_show_the_same();
 }
 
 /// A law: a new name is the first candidate that isn't taken, where fewer than 2^64 - 1 names are taken. However many these are, it

@@ -20,14 +20,16 @@ mod written_laws;
 
 pub use building::build;
 pub use by_hand::{
-    equal_up_to_names_by_hand, expansions_by_hand, macro_causes_by_hand, written_runs_by_hand,
+    alike_configurations_by_hand, equal_up_to_names_by_hand, expansions_by_hand,
+    macro_causes_by_hand, written_runs_by_hand,
 };
 pub use definition::{Definition, DefinitionList};
 pub use index::{Index, definition_named, index_of};
 pub use laws::{
-    expansions_are_one, new_names_are_least, new_names_are_short, plain_files_stay,
-    plain_names_stand_for_bodies, plain_uses_have_parameters, same_up_to_names_show_the_same,
-    sizes_are_one, uses_are_instances, uses_show_their_instances,
+    alike_configurations_show_the_same, expansions_are_one, new_names_are_least,
+    new_names_are_short, plain_files_stay, plain_names_stand_for_bodies,
+    plain_uses_have_parameters, same_up_to_names_is_symmetric_and_transitive,
+    same_up_to_names_show_the_same, sizes_are_one, uses_are_instances, uses_show_their_instances,
 };
 pub use seeing::seen;
 pub use sizes::{Size, expanded_size};

@@ -1,0 +1,57 @@
+-- Small configurations, to try by hand which have threads that are equal up to names, and which a ground store.
+use Rattle.std.specs.Prelude.{ℕ, List, [], ◌∷◌, Option, Some, None}
+use Rattle.sap_terms.specs.Tree.{Tree}
+use Rattle.sap_terms.specs.declared.var.Sort.TheVariants.{Fresh}
+use Rattle.sap_process.specs.Action.{new}
+use Rattle.sap_process.specs.Configuration.{Config}
+use Rattle.sap_process.specs.Proc.{Proc, nil, act}
+use Rattle.sap_process.specs.StepExamples.{alone, only, showing}
+use Rattle.sap_macro.specs.AlikeConfigurations.{AlikeThreads}
+use Rattle.sap_macro.specs.NameExamples.{x, fresh_x, fresh_y, a, new_x, new_y, gives, finds_x}
+use Rattle.sap_macro.specs.UpToNames.{named}
+
+-- new ~x; out(~x), and the same with ~y
+abbrev pub gives_new_x : Option Proc
+gives_new_x = Some (new_x (gives fresh_x))
+
+abbrev pub gives_new_y : Option Proc
+gives_new_y = Some (new_y (gives fresh_y))
+
+-- out('a')
+abbrev pub gives_a : Option Proc
+gives_a = Some (gives a)
+
+-- no threads; a thread that has ended and two that run; names that change sides from thread to thread
+abbrev pub alike_lists : List (List (Option Proc) × List (Option Proc))
+alike_lists = ([], [])
+    ∷ (None ∷ gives_new_x ∷ gives_a ∷ [], None ∷ gives_new_y ∷ gives_a ∷ [])
+    ∷ (gives_new_x ∷ gives_new_y ∷ [], gives_new_y ∷ gives_new_x ∷ []) ∷ []
+
+-- a thread more on either side; one that has ended and one that has nothing left, on either side; two that change places; a first
+-- and a last one that differ; and one that uses what nothing binds
+abbrev pub other_lists : List (List (Option Proc) × List (Option Proc))
+other_lists = (gives_a ∷ [], gives_a ∷ gives_a ∷ [])
+    ∷ (gives_a ∷ None ∷ [], gives_a ∷ [])
+    ∷ (None ∷ [], Some nil ∷ []) ∷ (Some nil ∷ [], None ∷ [])
+    ∷ (gives_a ∷ gives_new_x ∷ [], gives_new_x ∷ gives_a ∷ [])
+    ∷ (gives_a ∷ gives_a ∷ [], Some nil ∷ gives_a ∷ [])
+    ∷ (gives_a ∷ gives_a ∷ [], gives_a ∷ Some nil ∷ [])
+    ∷ (Some (gives x) ∷ [], Some (gives x) ∷ []) ∷ []
+
+-- in each of these pairs the threads are alike
+abbrev pub AreAllAlike : List (List (Option Proc) × List (Option Proc)) → Type 0
+AreAllAlike [] = Unit {0}
+AreAllAlike (e ∷ es) = AlikeThreads e.0 e.1 × AreAllAlike es
+
+-- in none
+abbrev pub AreNoneAlike : List (List (Option Proc) × List (Option Proc)) → Type 0
+AreNoneAlike [] = Unit {0}
+AreNoneAlike (e ∷ es) = ¬ AlikeThreads e.0 e.1 × AreNoneAlike es
+
+-- this thread alone, where the store has the term at 'a', and nothing elsewhere
+abbrev pub storing : Tree → Proc → Config
+storing t p = record (alone p) { store = only a t }
+
+-- lookup 'a' as x in new ~n; event A(x), where ~n has this name
+abbrev pub looking : List ℕ → Proc
+looking n = finds_x (act (new (named n Fresh)) (showing x)) nil
