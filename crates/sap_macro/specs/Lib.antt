@@ -1,6 +1,7 @@
 pub mod UpToNames
 pub mod NameExamples
 pub mod Written
+pub mod Located
 pub mod Walked
 pub mod NewNames
 pub mod Expansion
