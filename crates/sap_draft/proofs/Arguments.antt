@@ -1,15 +1,13 @@
 -- The arguments of a use: what is read as such is spelled so, and what is spelled so is read.
-use Rattle.std.proofs.Common.{◌≡◌, ◌≤◌, ◌<◌, ◌-◌, ℕ, zero, suc, List, [], ◌∷◌, ◌++◌, append_assoc, length, drop, Some, None, true, false, refl, sym, ap, subst, ◌∙◌, arith}
+use Rattle.std.proofs.Common.{◌≡◌, ◌≤◌, ◌<◌, ℕ, zero, suc, List, [], ◌∷◌, length, drop, Some, None, refl, subst, arith}
 use Rattle.std.specs.Prelude.{codes, if◌then◌else◌}
-use Rattle.std.proofs.lemmas.List.{length-drop}
 use Rattle.std.proofs.lemmas.List.Elements.{All-nil, All-cons, All-head, All-tail}
 use Rattle.sap_terms.specs.Signature.{Sig}
 use Rattle.sap_terms.specs.Tree.{Tree}
-use Rattle.sap_text.specs.declared.token.Token.{Token}
 use Rattle.sap_grammar.specs.declared.limits.Limits.{Limits}
-use Rattle.sap_grammar.specs.Words.{Word, mark, words_of, starts}
+use Rattle.sap_grammar.specs.Words.{Word, mark, starts}
 use Rattle.sap_grammar.specs.Sizes.{IsSmall, AreSmall, is_small}
-use Rattle.sap_grammar.specs.TermGrammar.{IsTerm, IsRest, IsList, IsArgs, IsShort, args_none, args_some, list_last, list_more, rest_last, rest_more, term_constant, term_fresh, term_message, term_pub, term_quoted, term_symbol, term_tuple}
+use Rattle.sap_grammar.specs.TermGrammar.{IsList, IsShort, list_last, list_more}
 use Rattle.sap_grammar.specs.Reading.{Read, Reader, after, given, behind, list_of}
 use Rattle.sap_grammar.specs.TermReading.{short_term, term, rest}
 use Rattle.sap_draft.specs.code.ProcessReading.{arguments}

@@ -1,21 +1,25 @@
 -- Processes and their words, by hand.
-use Rattle.std.proofs.Common.{List, [], ◌∷◌, refl, arith}
+use Rattle.std.proofs.Common.{◌≡◌, List, [], ◌∷◌, refl, sym, ◌∙◌, arith}
 use Rattle.std.specs.Prelude.{codes}
 use Rattle.sap_terms.specs.Signature.{Sig, pairs_alone}
 use Rattle.sap_grammar.specs.Words.{Word, mark, name, quoted}
 use Rattle.sap_grammar.specs.TermGrammar.{args_none, args_some, list_last, list_more, term_fresh, term_message, term_quoted, sorted, IsShort}
 use Rattle.sap_grammar.specs.FactGrammar.{fact_linear, fact_persistent, facts_last, facts_more, facts_none, facts_some}
-use Rattle.sap_draft.specs.ProcessGrammar.{IsPar, action_acts, action_input, action_lock, action_new_fresh, action_send, action_unlock, one_bar, par_more, par_one, seq_action, seq_call, seq_if, seq_if_else, seq_lookup_else, seq_nil, seq_parentheses, seq_replicated, seq_then, seq_use, two_bars}
+use Rattle.sap_draft.specs.ProcessGrammar.{IsPar, action_acts, action_input, action_lock, action_new_fresh, action_send, action_unlock, one_bar, par_more, par_one, seq_action, seq_call, seq_if, seq_if_else, seq_lookup, seq_lookup_else, seq_nil, seq_parentheses, seq_replicated, seq_then, seq_use, two_bars}
 use Rattle.sap_draft.specs.ProcessExamples.{a, action_process, action_words, dangling_process, dangling_words, lookup_process, lookup_words, parallel_process, parallel_words, parted_process, parted_words, rule_process, rule_words, use_process, use_words, empty_use_words, comma_use_words, parted_use_words}
+use Rattle.sap_draft.specs.LocatedProcesses.{IsLocated}
+use Rattle.sap_draft.specs.LocatedExamples.{dangling_with, parted_with, parallel_with, grouped_words, grouped_with, actions_with, rule_with, lookup_with, only_found_words, only_found_with, use_with}
 use Rattle.sap_grammar.specs.Sizes.{IsSmall, AreSmall}
 use Rattle.sap_grammar.specs.Reading.{after, given, past}
 use Rattle.sap_grammar.specs.TermReading.{short_term, term}
 use Rattle.sap_terms.specs.declared.var.Sort.TheVariants.{Fresh}
 use Rattle.sap_macro.specs.Written.{Written}
+use Rattle.sap_macro.specs.Located.{Located}
 use Rattle.sap_draft.specs.ProcessGrammar.{IsProcess}
 use Rattle.sap_draft.specs.code.ProcessReading.{par}
 use Rattle.sap_grammar.specs.TermLaws.{AreRead, AreSpelled}
-use Rattle.sap_draft.proofs.WholeProcesses.{nothing_whole, no_other_whole}
+use Rattle.sap_draft.proofs.Processes.{one_located}
+use Rattle.sap_draft.proofs.WholeProcesses.{at_last, nothing_whole, no_other_whole}
 use Rattle.sap_draft.specs.declared.limits.TheConstants.{FILE_LIMITS}
 use Rattle.std.proofs.lemmas.List.Elements.{All-nil, All-cons}
 
@@ -69,3 +73,43 @@ module _ (read : AreRead) (spelled : AreSpelled) (g : Sig) where
   pub parted_use_isnt : (p : Written) → IsProcess g p parted_use_words → ⊥
   unfolding par after past
   parted_use_isnt p r = no_other_whole read spelled g parted_use_words _ _ refl (λ e. absurd (cc (e))) g p r
+
+-- ---- the words that tell places
+
+pub dangling_located : (g : Sig) → IsLocated g (dangling_with 13 8 13) dangling_words
+unfolding dangling_is
+dangling_located g = record { levels = 3; spelled = dangling_is g; places = refl }
+
+pub parted_located : (g : Sig) → IsLocated g (parted_with 9) parted_words
+unfolding parted_is
+parted_located g = record { levels = 4; spelled = parted_is g; places = refl }
+
+pub parallel_located : (g : Sig) → IsLocated g (parallel_with 4 2) parallel_words
+unfolding parallel_is
+parallel_located g = record { levels = 3; spelled = parallel_is g; places = refl }
+
+pub grouped_located : (g : Sig) → IsLocated g (grouped_with 2 5) grouped_words
+grouped_located g = record { levels = 4; spelled = par_more two_bars (seq_parentheses (par_more one_bar seq_call (par_one seq_call))) (par_one seq_nil); places = refl }
+
+pub actions_located : IsLocated pairs_alone (actions_with 17 13 5 4) action_words
+unfolding action_is
+actions_located = record { levels = 5; spelled = action_is; places = refl }
+
+pub rule_located : (g : Sig) → IsLocated g (rule_with 18 18) rule_words
+unfolding rule_is
+rule_located g = record { levels = 2; spelled = rule_is g; places = refl }
+
+pub lookup_located : (g : Sig) → IsLocated g (lookup_with 10 5 2) lookup_words
+unfolding lookup_is
+lookup_located g = record { levels = 3; spelled = lookup_is g; places = refl }
+
+pub only_found_located : (g : Sig) → IsLocated g (only_found_with 6 6) only_found_words
+only_found_located g = record { levels = 2; spelled = par_one (seq_lookup (short_a g _) seq_call); places = refl }
+
+pub uses_located : (g : Sig) → IsLocated g (use_with 9 2) use_words
+unfolding use_is
+uses_located g = record { levels = 2; spelled = use_is g; places = refl }
+
+-- the same words have no other numbers
+pub other : AreRead → {g : Sig} {w v : Located} {ws : List Word} → IsLocated g w ws → (w ≡ v → ⊥) → IsLocated g v ws → ⊥
+other read r isnt s = let same = one_located read r.spelled s.spelled at_last at_last in isnt (sym r.places ∙ same.0 ∙ s.places)

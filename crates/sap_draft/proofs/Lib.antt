@@ -1,5 +1,6 @@
 pub mod ProcessSteps
 pub mod Arguments
+pub mod LocatedProcesses
 pub mod Processes
 pub mod SoundProcesses
 pub mod Signatures

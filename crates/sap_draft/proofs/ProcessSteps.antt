@@ -1,11 +1,11 @@
 -- What reading processes does at each depth.
-use Rattle.std.proofs.Common.{◌≡◌, ◌≤◌, ◌<◌, ◌-◌, ℕ, zero, suc, List, None, true, false, refl, arith}
+use Rattle.std.proofs.Common.{◌≡◌, ◌<◌, ◌-◌, ℕ, zero, suc, List, None, refl, arith}
 use Rattle.sap_terms.specs.Signature.{Sig}
 use Rattle.sap_grammar.specs.declared.limits.Limits.{Limits}
 use Rattle.sap_grammar.specs.Words.{Word}
 use Rattle.sap_draft.specs.code.ProcessReading.{seq, par, seq_at, par_at}
 use Rattle.sap_grammar.proofs.ReadingLaws.Limits.{fits, over}
-use Rattle.sap_grammar.proofs.ReadingLaws.Tokens.{words-drop}
+use Rattle.sap_grammar.proofs.ReadingLaws.Tokens.{words-drop, length-words}
 
 pub seq_zero : (g : Sig) (m : Limits) (ws : List Word) → seq g m 0 ws ≡ None
 unfolding seq par
@@ -25,10 +25,10 @@ unfolding seq par
 par_step g m zero ws lt = absurd (omega (arith, lt))
 par_step g m (suc d) ws lt = let e : suc d - 1 ≡ d = omega arith in rw e refl
 
-pub ruleset tokens = (words-drop)
+pub ruleset tokens = (words-drop, length-words)
 
 pub ruleset limits = (words-drop, fits, over)
 
-pub ruleset seq_steps = (words-drop, seq_zero, seq_step)
+pub ruleset seq_steps = (words-drop, length-words, seq_zero, seq_step)
 
-pub ruleset par_steps = (words-drop, par_zero, par_step)
+pub ruleset par_steps = (words-drop, length-words, par_zero, par_step)

@@ -1,5 +1,5 @@
 -- What is spelled so is read: facts, actions and processes.
-use Rattle.std.proofs.Common.{◌≡◌, ◌≤◌, max, ℕ, zero, suc, Bool, false, List, ◌∷◌, Some, refl, sym, ap, ◌∙◌, arith}
+use Rattle.std.proofs.Common.{◌≡◌, ◌≤◌, max, ℕ, zero, suc, Bool, false, List, ◌∷◌, length, Some, refl, sym, ap, ◌∙◌, arith}
 use Rattle.std.specs.Prelude.{codes, ⊤}
 use Rattle.sap_terms.specs.declared.fact.Fact.{Fact}
 use Rattle.sap_terms.specs.Tree.{Tree}
@@ -12,6 +12,9 @@ use Rattle.sap_grammar.specs.TermReading.{short_term, short_fact, facts}
 use Rattle.sap_grammar.specs.TermGrammar.{IsShort}
 use Rattle.sap_process.specs.Action.{Action}
 use Rattle.sap_macro.specs.Written.{Written}
+use Rattle.sap_macro.specs.Located.{without_numbers}
+use Rattle.sap_draft.specs.LocatedProcesses.{seq_located, par_located}
+use Rattle.sap_draft.proofs.LocatedProcesses.{par_plain}
 use Rattle.sap_draft.specs.ProcessGrammar.{IsAction, IsSeq, IsPar, Ending, EndsProcess, action_acts, action_delete, action_event, action_input, action_insert, action_lock, action_new, action_new_fresh, action_out, action_receive, action_rule, action_send, action_unlock, closed, dangling, one_bar, two_bars, par_more, par_one, seq_action, seq_call, seq_if, seq_if_else, seq_lookup, seq_lookup_else, seq_nil, seq_parentheses, seq_replicated, seq_then, seq_use}
 use Rattle.sap_grammar.specs.TermLaws.{AreRead}
 use Rattle.sap_draft.proofs.Arguments.{arguments_read}
@@ -84,7 +87,7 @@ module _ (laws : AreRead) where
   acts_read {g = g} {m = m} {s = s} {fs = fs} {a = a} {b = b} r = laws.facts_read g m s (codes "]->") fs a b (λ e. absurd (cc (e))) (λ e. absurd (cc (e))) r
 
   module _ (s p : Reader Levelled) (d : ℕ) where
-    action_read : {g : Sig} {m : Limits} {k : Action} {a b : List Word} → IsAction g m k a b → starts (codes "(") b ≡ false → seq_at g m s p d a ≡ going_on s d k b
+    action_read : {g : Sig} {m : Limits} {k : Action} {a b : List Word} → IsAction g m k a b → starts (codes "(") b ≡ false → seq_at g m s p d a ≡ going_on s d (length a) k b
     unfolding after given past
     action_read action_new f = refl
     action_read action_new_fresh f = refl
@@ -103,7 +106,7 @@ module _ (laws : AreRead) where
   mutual
     unfolding seq par after given past
 
-    seq_read : {g : Sig} {m : Limits} {n : ℕ} {e : Ending} {p : Written} {a b : List Word} → IsSeq g m e p n a b → (d : ℕ) → n ≤ d → Follows e b → seq g m d a ≡ Some ((p, n), b)
+    seq_read : {g : Sig} {m : Limits} {n : ℕ} {e : Ending} {p : Written} {a b : List Word} (r : IsSeq g m e p n a b) (d : ℕ) → n ≤ d → Follows e b → seq g m d a ≡ Some ((seq_located r, n), b)
     seq_read r zero le f = absurd (omega (arith, le, seq_some r))
     seq_read seq_nil (suc d) le f = refl
     seq_read seq_call (suc d) le f = rw f.no_parenthesis refl
@@ -123,7 +126,7 @@ module _ (laws : AreRead) where
     seq_read (seq_lookup_else {c = g} t r s) (suc d) le f =
         rw (short_read t refl, seq_read r d (omega (arith, le)) (at_else g), seq_read s d (omega (arith, le)) f) refl
 
-    pub par_read : {g : Sig} {m : Limits} {n : ℕ} {p : Written} {a b : List Word} → IsPar g m p n a b → (d : ℕ) → n ≤ d → EndsProcess b → par g m d a ≡ Some ((p, n), b)
+    pub par_read : {g : Sig} {m : Limits} {n : ℕ} {p : Written} {a b : List Word} (r : IsPar g m p n a b) (d : ℕ) → n ≤ d → EndsProcess b → par g m d a ≡ Some ((par_located r, n), b)
     par_read r zero le f = absurd (omega (arith, le, par_some r))
     par_read (par_one {e = e} r) (suc d) le f = rw (seq_read r (suc d) le (ending e f), f.no_bar, f.no_bars) refl
     par_read (par_more {e = e} {n = n} {b = b} one_bar r s) (suc d) le f =
@@ -131,10 +134,17 @@ module _ (laws : AreRead) where
     par_read (par_more {e = e} {n = n} {b = b} two_bars r s) (suc d) le f =
         rw (seq_read r (suc d) (omega (arith, le)) (at_bars e b), fits n d (omega (arith, le)), par_read s d (omega (arith, le)) f) refl
 
-  -- from one place words spell at most one process that nothing of it follows
+  -- from one place words spell at most one process that nothing of it follows, and each place of it is told by one word
+  pub one_located : {g : Sig} {m : Limits} {n k : ℕ} {p q : Written} {a b c : List Word} (r : IsPar g m p n a b) (s : IsPar g m q k a c) → EndsProcess b → EndsProcess c
+      → (par_located r ≡ par_located s) × (n ≡ k) × (b ≡ c)
+  one_located {n = n} {k = k} {b = b} {c = c} r s e f =
+      let d = max n k in
+      let x = par_located r in
+      let y = par_located s in
+      let same : ◌≡◌ {A = Read Levelled} (Some ((x, n), b)) (Some ((y, k), c)) = sym (par_read r d (omega arith) e) ∙ par_read s d (omega arith) f in
+      let both : ◌≡◌ {A = Levelled × List Word} ((x, n), b) ((y, k), c) = cc (same) in
+      (ap (λ x. x.0.0) both, ap (λ x. x.0.1) both, ap (λ x. x.1) both)
+
   pub one_process : (g : Sig) (m : Limits) (n k : ℕ) (p q : Written) (a b c : List Word) → IsPar g m p n a b → IsPar g m q k a c → EndsProcess b → EndsProcess c → (p ≡ q) × (n ≡ k) × (b ≡ c)
   one_process g m n k p q a b c r s e f =
-      let d = max n k in
-      let same : ◌≡◌ {A = Read Levelled} (Some ((p, n), b)) (Some ((q, k), c)) = sym (par_read r d (omega arith) e) ∙ par_read s d (omega arith) f in
-      let both : ◌≡◌ {A = Levelled × List Word} ((p, n), b) ((q, k), c) = cc in
-      (ap (λ x. x.0.0) both, ap (λ x. x.0.1) both, ap (λ x. x.1) both)
+      let same = one_located r s e f in (sym (par_plain r) ∙ ap without_numbers same.0 ∙ par_plain s, same.1, same.2)

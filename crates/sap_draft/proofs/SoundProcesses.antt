@@ -1,5 +1,5 @@
 -- What is read is spelled so: facts, actions and processes.
-use Rattle.std.proofs.Common.{◌≡◌, ◌≤◌, max, ℕ, zero, suc, ◌+◌, Bool, true, false, List, [], ◌∷◌, drop, Option, Some, None, refl, sym, ap, subst, ◌∙◌, arith}
+use Rattle.std.proofs.Common.{◌≡◌, ◌≤◌, max, ℕ, zero, suc, ◌+◌, Bool, true, false, List, [], ◌∷◌, drop, length, Option, Some, None, refl, sym, ap, subst, ◌∙◌, arith}
 use Rattle.std.specs.Prelude.{nat_le, codes, ◌||◌}
 use Rattle.sap_terms.specs.declared.fact.Fact.{Fact}
 use Rattle.sap_terms.specs.declared.var.Sort.TheVariants.{Msg}
@@ -12,10 +12,11 @@ use Rattle.sap_grammar.specs.FactGrammar.{IsShortFact, AreFacts}
 use Rattle.sap_grammar.specs.Reading.{Read, Reader, name_at, starts_zero, past}
 use Rattle.sap_grammar.specs.TermReading.{short_term, short_fact, facts}
 use Rattle.sap_process.specs.Action.{Action, out, send, input, receive, delete, lock, unlock, embedded}
-use Rattle.sap_macro.specs.Written.{Written, nil, call, parallel, test, lookup}
-use Rattle.sap_draft.specs.ProcessGrammar.{var, IsAction, IsSeq, IsPar, Ending, action_acts, action_delete, action_event, action_input, action_insert, action_lock, action_new, action_new_fresh, action_out, action_receive, action_rule, action_send, action_unlock, closed, dangling, one_bar, two_bars, par_more, par_one, seq_action, seq_call, seq_if, seq_if_else, seq_lookup, seq_lookup_else, seq_nil, seq_parentheses, seq_replicated, seq_then, seq_use}
-use Rattle.sap_draft.specs.code.ProcessReading.{channel, bound, right_side, embedded_rule, shown_event, inserted, on_term, state_action, action_of, Levelled, branches, Choosing, compared, condition, looked_up, looking, going_on, arguments, used, call_or_action, seq_at, par_at, seq, par}
+use Rattle.sap_macro.specs.Located.{Located, nil_at, call_at, parallel_at}
+use Rattle.sap_draft.specs.ProcessGrammar.{var, IsAction, IsBar, Ending, action_acts, action_delete, action_event, action_input, action_insert, action_lock, action_new, action_new_fresh, action_out, action_receive, action_rule, action_send, action_unlock, closed, dangling, one_bar, two_bars}
+use Rattle.sap_draft.specs.code.ProcessReading.{channel, bound, right_side, embedded_rule, shown_event, inserted, on_term, state_action, action_of, Levelled, branches, Choosing, by_test, by_lookup, compared, condition, looked_up, looking, going_on, arguments, used, call_or_action, enclosed, repeated, seq_at, par_at, seq, par}
 use Rattle.sap_draft.proofs.Arguments.{AreArguments, arguments_sound}
+use Rattle.sap_draft.proofs.LocatedProcesses.{SeqAt, ParAt, at_nil, at_call, at_use, at_parentheses, at_replicated, at_action, at_then, at_if, at_if_else, at_lookup, at_lookup_else, at_one, at_more}
 use Rattle.sap_draft.proofs.Processes.{NoElse, seq_some}
 use Rattle.sap_grammar.proofs.ReadingLaws.Limits.{le_of}
 use Rattle.sap_grammar.proofs.ReadingLaws.OnRead.{Says, OnRead, on_all, after_on, given_on, if_on, starts_is, name_is, same_bytes}
@@ -144,10 +145,10 @@ module _ (laws : AreRead) where
         if_on Q (starts (codes "event") ts) _ _ (λ e. at_mark (codes "event") ts _ e (event_sound r)) (λ _.
         state_sound ts))))
 
-  -- a process as read: no `else` follows that would belong to it
+  -- a process as read, with its numbers: no `else` follows that would belong to it
   pub record Spelled (g : Sig) (m : Limits) (d : ℕ) (ts : List Word) (w : Levelled) (b : List Word) : Type 0 where
     pub ending : Ending
-    pub spelled : IsSeq g m ending w.0 w.1 ts b
+    pub spelled : SeqAt g m ending w.0 w.1 ts b
     pub within : w.1 ≤ d
     pub no_else : NoElse ending b
 
@@ -155,22 +156,22 @@ module _ (laws : AreRead) where
   SoundSeqs g m d s = (ts : List Word) → OnRead (λ w b. Spelled g m d ts w b) (s ts)
 
   abbrev pub SoundPars : Sig → Limits → ℕ → Reader Levelled → Type 0
-  SoundPars g m d s = (ts : List Word) → OnRead (λ w b. IsPar g m w.0 w.1 ts b × (w.1 ≤ d)) (s ts)
+  SoundPars g m d s = (ts : List Word) → OnRead (λ w b. ParAt g m w.0 w.1 ts b × (w.1 ≤ d)) (s ts)
 
-  seq_on : {g : Sig} {m : Limits} {n : ℕ} {e : Ending} {p : Written} {a b c : List Word} → IsSeq g m e p n a b → b ≡ c → IsSeq g m e p n a c
-  seq_on {g = g} {m = m} {n = n} {e = e} {p = p} {a = a} r w = subst (λ (y : List Word). IsSeq g m e p n a y) w r
+  seq_on : {g : Sig} {m : Limits} {n : ℕ} {e : Ending} {p : Located} {a b c : List Word} → SeqAt g m e p n a b → b ≡ c → SeqAt g m e p n a c
+  seq_on {g = g} {m = m} {n = n} {e = e} {p = p} {a = a} r w = subst (λ (y : List Word). SeqAt g m e p n a y) w r
 
   -- where `else` follows, the branch is closed
-  closed_branch : {g : Sig} {m : Limits} {n : ℕ} {p : Written} {a b : List Word} (e : Ending) → IsSeq g m e p n a b → NoElse e b → starts (codes "else") b ≡ true → IsSeq g m closed p n a b
+  closed_branch : {g : Sig} {m : Limits} {n : ℕ} {p : Located} {a b : List Word} (e : Ending) → SeqAt g m e p n a b → NoElse e b → starts (codes "else") b ≡ true → SeqAt g m closed p n a b
   closed_branch closed r other there = r
   closed_branch dangling r other there = absurd (cc (there, other))
 
   module _ (g : Sig) (m : Limits) (d : ℕ) (s : Reader Levelled) (ss : SoundSeqs g m d s) where
-    branches_sound : (a ts : List Word) (made : Written → Written → Written)
-        → ((e : Ending) (p : Written) (n : ℕ) (b : List Word) → IsSeq g m e p n ts b → IsSeq g m dangling (made p nil) (max n 1 + 1) a b)
-        → ((e : Ending) (p q : Written) (n k : ℕ) (b c : List Word) → IsSeq g m closed p n ts (mark (codes "else") ∷ b) → IsSeq g m e q k b c → IsSeq g m e (made p q) (max n k + 1) a c)
-        → OnRead (λ w b. Spelled g m (suc d) a w b) (branches s made ts)
-    branches_sound a ts made one two =
+    branches_sound : (a ts : List Word) (i : ℕ) (made : Choosing)
+        → ((e : Ending) (p : Located) (n : ℕ) (b : List Word) → SeqAt g m e p n ts b → SeqAt g m dangling (made i p (nil_at i)) (max n 1 + 1) a b)
+        → ((e : Ending) (p q : Located) (n k : ℕ) (b c : List Word) → SeqAt g m closed p n ts (mark (codes "else") ∷ b) → SeqAt g m e q k b c → SeqAt g m e (made i p q) (max n k + 1) a c)
+        → OnRead (λ w b. Spelled g m (suc d) a w b) (branches s i made ts)
+    branches_sound a ts i made one two =
         let Q : Says Levelled = λ w b. Spelled g m (suc d) a w b in
         after_on (λ w b. Spelled g m d ts w b) Q (s ts) _ (ss ts) (λ p r h.
         if_on Q (starts (codes "else") r) _ _
@@ -183,79 +184,80 @@ module _ (laws : AreRead) where
         }))
         (λ e. record { ending = dangling; spelled = one h.ending p.0 p.1 r h.spelled; within = some_within h.ending h.spelled h.within; no_else = e }))
       where
-        some_within : {p : Written} {n : ℕ} {b : List Word} (e : Ending) → IsSeq g m e p n ts b → n ≤ d → max n 1 + 1 ≤ suc d
-        some_within e r le = omega (arith, le, seq_some r)
+        some_within : {p : Located} {n : ℕ} {b : List Word} (e : Ending) → SeqAt g m e p n ts b → n ≤ d → max n 1 + 1 ≤ suc d
+        some_within e r le = omega (arith, le, seq_some r.spelled)
 
     -- behind `if`
-    if_sound : (ts : List Word) → OnRead (λ w b. Spelled g m (suc d) (mark (codes "if") ∷ ts) w b) (condition g m s ts)
+    if_sound : (ts : List Word) → OnRead (λ w b. Spelled g m (suc d) (mark (codes "if") ∷ ts) w b) (condition g m s (suc (length ts)) ts)
     if_sound ts =
         let Q : Says Levelled = λ w b. Spelled g m (suc d) (mark (codes "if") ∷ ts) w b in
-        let P : Says Choosing = λ made r. OnRead Q (branches s made r) in
+        let P : Says Choosing = λ made r. OnRead Q (branches s (suc (length ts)) made r) in
         after_on P Q (compared g m ts) _
         (after_on (Short g m ts) P (short_term g m ts) _ (short_sound g m ts) (λ t r h.
         past_on P (codes "=") r _ (λ e.
         after_on (Short g m (drop 1 r)) P (short_term g m (drop 1 r)) _ (short_sound g m (drop 1 r)) (λ u y k.
         past_on P (codes "then") y _ (λ f.
-        branches_sound (mark (codes "if") ∷ ts) (drop 1 y) (test t u)
-        (λ i p n b v. seq_if (short_on g m h e) (short_on g m k f) v)
-        (λ i p q n j b c v w. seq_if_else (short_on g m h e) (short_on g m k f) v w))))))
+        branches_sound (mark (codes "if") ∷ ts) (drop 1 y) (suc (length ts)) (by_test t u)
+        (λ i p n b v. at_if (short_on g m h e) (short_on g m k f) v)
+        (λ i p q n j b c v w. at_if_else (short_on g m h e) (short_on g m k f) v w))))))
         (λ made r on. on)
 
     -- behind `lookup`
-    lookup_sound : (ts : List Word) → OnRead (λ w b. Spelled g m (suc d) (mark (codes "lookup") ∷ ts) w b) (looking g m s ts)
+    lookup_sound : (ts : List Word) → OnRead (λ w b. Spelled g m (suc d) (mark (codes "lookup") ∷ ts) w b) (looking g m s (suc (length ts)) ts)
     lookup_sound ts =
         let Q : Says Levelled = λ w b. Spelled g m (suc d) (mark (codes "lookup") ∷ ts) w b in
-        let P : Says Choosing = λ made r. OnRead Q (branches s made r) in
+        let P : Says Choosing = λ made r. OnRead Q (branches s (suc (length ts)) made r) in
         after_on P Q (looked_up g m ts) _
         (after_on (Short g m ts) P (short_term g m ts) _ (short_sound g m ts) (λ t r h.
         past_on P (codes "as") r _ (λ e.
         given_on P (name_at (drop 1 r)) _ (λ x f.
         past_on P (codes "in") (drop 1 (drop 1 r)) _ (λ i.
         let all : r ≡ mark (codes "as") ∷ name x ∷ mark (codes "in") ∷ drop 1 (drop 1 (drop 1 r)) = e ∙ ap (λ q. mark (codes "as") ∷ q) (name_is (drop 1 r) x f ∙ ap (λ q. name x ∷ q) i) in
-        branches_sound (mark (codes "lookup") ∷ ts) (drop 1 (drop 1 (drop 1 r))) (lookup t (var Msg x))
-        (λ j p n b v. seq_lookup (short_on g m h all) v)
-        (λ j p q n k b c v w. seq_lookup_else (short_on g m h all) v w))))))
+        branches_sound (mark (codes "lookup") ∷ ts) (drop 1 (drop 1 (drop 1 r))) (suc (length ts)) (by_lookup t (var Msg x))
+        (λ j p n b v. at_lookup (short_on g m h all) v)
+        (λ j p q n k b c v w. at_lookup_else (short_on g m h all) v w))))))
         (λ made r on. on)
 
-    going_sound : (ts : List Word) (k : Action) (r : List Word) → IsAction g m k ts r → OnRead (λ w b. Spelled g m (suc d) ts w b) (going_on s d k r)
+    going_sound : (ts : List Word) (k : Action) (r : List Word) → IsAction g m k ts r → OnRead (λ w b. Spelled g m (suc d) ts w b) (going_on s d (length ts) k r)
     going_sound ts k r h =
         let Q : Says Levelled = λ w b. Spelled g m (suc d) ts w b in
         if_on Q (starts (codes ";") r) _ _
         (λ e. after_on (λ w b. Spelled g m d (drop 1 r) w b) Q (s (drop 1 r)) _ (ss (drop 1 r)) (λ p z i.
         record {
           ending = i.ending;
-          spelled = seq_then (subst (λ (y : List Word). IsAction g m k ts y) (starts_is (codes ";") r e) h) i.spelled;
+          spelled = at_then (subst (λ (y : List Word). IsAction g m k ts y) (starts_is (codes ";") r e) h) i.spelled;
           within = omega (arith, i.within);
           no_else = i.no_else;
         }))
         (λ e. if_on Q (nat_le 1 d) _ _
-        (λ le. let some : 1 ≤ d = le_of 1 d le in record { ending = closed; spelled = seq_action h; within = omega (arith, some); no_else = tt })
+        (λ le. let some : 1 ≤ d = le_of 1 d le in record { ending = closed; spelled = at_action h; within = omega (arith, some); no_else = tt })
         (λ le. tt))
 
     -- behind the name of a process
-    use_sound : (x : List ℕ) (ts : List Word) → OnRead (λ w b. Spelled g m (suc d) (name x ∷ ts) w b) (used g m x ts)
+    use_sound : (x : List ℕ) (ts : List Word) → OnRead (λ w b. Spelled g m (suc d) (name x ∷ ts) w b) (used g m (suc (length ts)) x ts)
     use_sound x ts =
         let Q : Says Levelled = λ w b. Spelled g m (suc d) (name x ∷ ts) w b in
         if_on Q (starts (codes "(") ts) _ _
         (λ e. after_on (λ us b. AreArguments g m us (drop 1 ts) b) Q (arguments g m (drop 1 ts)) _ (arguments_sound laws g m (drop 1 ts)) (λ us b h.
         record {
           ending = closed;
-          spelled = subst (λ (y : List Word). IsSeq g m closed (call x us) 1 (name x ∷ y) b) (sym (starts_is (codes "(") ts e)) (seq_use h.spelled h.small);
+          spelled = subst (λ (y : List Word). SeqAt g m closed (call_at (suc (length y)) x us) 1 (name x ∷ y) b) (sym (starts_is (codes "(") ts e)) (at_use h.spelled h.small);
           within = omega arith;
           no_else = tt;
         }))
-        (λ e. record { ending = closed; spelled = seq_call; within = omega arith; no_else = tt })
+        (λ e. record { ending = closed; spelled = at_call; within = omega arith; no_else = tt })
 
     call_sound : (ts : List Word) → OnRead (λ w b. Spelled g m (suc d) ts w b) (call_or_action g m s d (name_at ts) ts)
     call_sound ts = by_word (name_at ts) refl
       where
         by_word : (o : Option (List ℕ)) → name_at ts ≡ o → OnRead (λ w b. Spelled g m (suc d) ts w b) (call_or_action g m s d o ts)
-        by_word (Some x) e = subst (λ (y : List Word). OnRead (λ w b. Spelled g m (suc d) y w b) (used g m x (drop 1 ts))) (sym (name_is ts x e)) (use_sound x (drop 1 ts))
+        by_word (Some x) e = subst (λ (y : List Word). OnRead (λ w b. Spelled g m (suc d) y w b) (used g m (length y) x (drop 1 ts))) (sym (name_is ts x e)) (use_sound x (drop 1 ts))
         by_word None e = after_on (Acts g m ts) (λ w b. Spelled g m (suc d) ts w b) (action_of g m ts) _ (action_sound g m ts) (λ k r h. going_sound ts k r h)
 
-    -- what is read behind a mark, where the mark stands
-    seq_mark : (w : List ℕ) (ts : List Word) (r : Read Levelled) → starts w ts ≡ true → OnRead (λ v b. Spelled g m (suc d) (mark w ∷ drop 1 ts) v b) r → OnRead (λ v b. Spelled g m (suc d) ts v b) r
-    seq_mark w ts r e h = subst (λ (y : List Word). OnRead (λ v b. Spelled g m (suc d) y v b) r) (sym (starts_is w ts e)) h
+    -- what is read behind a mark, where the mark stands, which has its number
+    seq_mark : (w : List ℕ) (ts : List Word) (r : ℕ → Read Levelled) → starts w ts ≡ true → OnRead (λ v b. Spelled g m (suc d) (mark w ∷ drop 1 ts) v b) (r (suc (length (drop 1 ts))))
+        → OnRead (λ v b. Spelled g m (suc d) ts v b) (r (length ts))
+    seq_mark w ts r e h = subst (λ (y : List Word). OnRead (λ v b. Spelled g m (suc d) y v b) (r (length y))) (sym (starts_is w ts e)) h
 
     module _ (v : Reader Levelled) (vs : SoundPars g m d v) where
       seq_at_sound : SoundSeqs g m (suc d) (seq_at g m s v d)
@@ -263,25 +265,25 @@ module _ (laws : AreRead) where
           let Q : Says Levelled = λ w b. Spelled g m (suc d) ts w b in
           let r : List Word = drop 1 ts in
           if_on Q (starts (codes "(") ts) _ _
-          (λ e. seq_mark (codes "(") ts _ e (after_on (λ w b. IsPar g m w.0 w.1 r b × (w.1 ≤ d)) (λ w b. Spelled g m (suc d) (mark (codes "(") ∷ r) w b) (v r) _ (vs r) (λ p y h.
+          (λ e. seq_mark (codes "(") ts (λ k. enclosed v r) e (after_on (λ w b. ParAt g m w.0 w.1 r b × (w.1 ≤ d)) (λ w b. Spelled g m (suc d) (mark (codes "(") ∷ r) w b) (v r) _ (vs r) (λ p y h.
           past_on (λ w b. Spelled g m (suc d) (mark (codes "(") ∷ r) w b) (codes ")") y _ (λ f.
           record {
             ending = closed;
-            spelled = seq_parentheses (subst (λ (b : List Word). IsPar g m p.0 p.1 r b) f h.0);
+            spelled = at_parentheses (subst (λ (b : List Word). ParAt g m p.0 p.1 r b) f h.0);
             within = omega (arith, h.1);
             no_else = tt;
           }))))
           (λ _. if_on Q (starts (codes "!") ts) _ _
-          (λ e. seq_mark (codes "!") ts _ e (after_on (λ w b. Spelled g m d r w b) (λ w b. Spelled g m (suc d) (mark (codes "!") ∷ r) w b) (s r) _ (ss r) (λ p y h.
-          record { ending = h.ending; spelled = seq_replicated h.spelled; within = omega (arith, h.within); no_else = h.no_else })))
+          (λ e. seq_mark (codes "!") ts (λ k. repeated s k r) e (after_on (λ w b. Spelled g m d r w b) (λ w b. Spelled g m (suc d) (mark (codes "!") ∷ r) w b) (s r) _ (ss r) (λ p y h.
+          record { ending = h.ending; spelled = at_replicated h.spelled; within = omega (arith, h.within); no_else = h.no_else })))
           (λ _. if_on Q (starts (codes "if") ts) _ _
-          (λ e. seq_mark (codes "if") ts _ e (if_sound r))
+          (λ e. seq_mark (codes "if") ts (λ k. condition g m s k r) e (if_sound r))
           (λ _. if_on Q (starts (codes "lookup") ts) _ _
-          (λ e. seq_mark (codes "lookup") ts _ e (lookup_sound r))
+          (λ e. seq_mark (codes "lookup") ts (λ k. looking g m s k r) e (lookup_sound r))
           (λ _. if_on Q (starts_zero ts) _ _
           (λ e. record {
             ending = closed;
-            spelled = subst (λ (y : List Word). IsSeq g m closed nil 1 y r) (sym (zero_is ts e)) seq_nil;
+            spelled = subst (λ (y : List Word). SeqAt g m closed (nil_at (length y)) 1 y r) (sym (zero_is ts e)) at_nil;
             within = omega arith;
             no_else = tt;
           })
@@ -289,22 +291,27 @@ module _ (laws : AreRead) where
 
   par_at_sound : (g : Sig) (m : Limits) (d : ℕ) (here v : Reader Levelled) → SoundSeqs g m (suc d) here → SoundPars g m d v → SoundPars g m (suc d) (par_at here v d)
   par_at_sound g m d here v s vs ts =
-      let Q : Says Levelled = λ w b. IsPar g m w.0 w.1 ts b × (w.1 ≤ suc d) in
+      let Q : Says Levelled = λ w b. ParAt g m w.0 w.1 ts b × (w.1 ≤ suc d) in
       after_on (λ w b. Spelled g m (suc d) ts w b) Q (here ts) _ (s ts) (λ p r h.
       if_on Q (starts (codes "|") r || starts (codes "||") r) _ _
       (λ e. if_on Q (nat_le p.1 d) _ _
       (λ le. let short : p.1 ≤ d = le_of p.1 d le in
-      after_on (λ w b. IsPar g m w.0 w.1 (drop 1 r) b × (w.1 ≤ d)) Q (v (drop 1 r)) _ (vs (drop 1 r)) (λ q z k.
+      after_on (λ w b. ParAt g m w.0 w.1 (drop 1 r) b × (w.1 ≤ d)) Q (v (drop 1 r)) _ (vs (drop 1 r)) (λ q z k.
       (joined p q r z h.ending h.spelled (starts (codes "|") r) refl e k.0, omega (arith, short, k.1))))
       (λ le. tt))
-      (λ e. (par_one h.spelled, h.within)))
+      (λ e. (at_one h.spelled, h.within)))
     where
-      joined : (p q : Levelled) (r z : List Word) (i : Ending) → IsSeq g m i p.0 p.1 ts r → (c : Bool) → starts (codes "|") r ≡ c → (starts (codes "|") r || starts (codes "||") r) ≡ true
-          → IsPar g m q.0 q.1 (drop 1 r) z → IsPar g m (parallel p.0 q.0) (max p.1 q.1 + 1) ts z
-      joined p q r z i h true e either k = par_more one_bar (seq_on h (starts_is (codes "|") r e)) k
+      -- behind a sign, which has the number of what stands from it on
+      signed : (p q : Levelled) (r z : List Word) (i : Ending) (w : List ℕ) → IsBar w → SeqAt g m i p.0 p.1 ts r → r ≡ mark w ∷ drop 1 r
+          → ParAt g m q.0 q.1 (drop 1 r) z → ParAt g m (parallel_at (length r) p.0 q.0) (max p.1 q.1 + 1) ts z
+      signed p q r z i w bar h is k = subst (λ (n : ℕ). ParAt g m (parallel_at n p.0 q.0) (max p.1 q.1 + 1) ts z) (sym (ap length is)) (at_more bar (seq_on h is) k)
+
+      joined : (p q : Levelled) (r z : List Word) (i : Ending) → SeqAt g m i p.0 p.1 ts r → (c : Bool) → starts (codes "|") r ≡ c → (starts (codes "|") r || starts (codes "||") r) ≡ true
+          → ParAt g m q.0 q.1 (drop 1 r) z → ParAt g m (parallel_at (length r) p.0 q.0) (max p.1 q.1 + 1) ts z
+      joined p q r z i h true e either k = signed p q r z i (codes "|") one_bar h (starts_is (codes "|") r e) k
       joined p q r z i h false e either k =
           let second : starts (codes "||") r ≡ true = rw e at either in
-          par_more two_bars (seq_on h (starts_is (codes "||") r second)) k
+          signed p q r z i (codes "||") two_bars h (starts_is (codes "||") r second) k
 
   mutual
     unfolding seq par

@@ -6,10 +6,13 @@ use Rattle.sap_grammar.specs.Words.{Word, words_of}
 use Rattle.sap_grammar.specs.Reading.{Read}
 use Rattle.sap_text.specs.declared.token.Token.{Token}
 use Rattle.sap_macro.specs.Written.{Written}
+use Rattle.sap_macro.specs.Located.{Located, without_numbers}
+use Rattle.sap_draft.specs.LocatedProcesses.{par_located}
+use Rattle.sap_draft.proofs.LocatedProcesses.{ParAt}
 use Rattle.sap_draft.specs.ProcessGrammar.{IsPar, EndsProcess}
 use Rattle.sap_draft.specs.ProcessGrammar.{IsProcess}
 use Rattle.sap_draft.specs.code.ProcessReading.{Levelled, par}
-use Rattle.sap_draft.proofs.Processes.{par_read}
+use Rattle.sap_draft.proofs.Processes.{par_read, one_located}
 use Rattle.sap_draft.proofs.SoundProcesses.{par_sound}
 use Rattle.sap_draft.proofs.Signatures.{par_too}
 use Rattle.sap_grammar.proofs.ReadingLaws.OnRead.{OnRead}
@@ -22,15 +25,27 @@ pub at_last : EndsProcess []
 at_last = record { no_parenthesis = refl; no_semicolon = refl; no_else = refl; no_bar = refl; no_bars = refl }
 
 module _ (read : AreRead) (spelled : AreSpelled) where
-  -- what is read to the last word is a process
-  pub whole_is : (g : Sig) (ws : List Word) (p : Written) (n : ℕ) → par g FILE_LIMITS MOST_PROCESS_LEVELS ws ≡ Some ((p, n), []) → IsProcess g p ws
-  whole_is g ws p n e =
-      let is : IsPar g FILE_LIMITS p n ws [] × (n ≤ MOST_PROCESS_LEVELS) = subst (λ (r : Read Levelled). OnRead (λ w b. IsPar g FILE_LIMITS w.0 w.1 ws b × (w.1 ≤ MOST_PROCESS_LEVELS)) r) e (par_sound read g FILE_LIMITS MOST_PROCESS_LEVELS ws) in
-      record { levels = n; spelled = is.0; few_levels = is.1 }
+  -- what is read to the last word is spelled so, with these numbers
+  whole_at : (g : Sig) (ws : List Word) (p : Located) (n : ℕ) → par g FILE_LIMITS MOST_PROCESS_LEVELS ws ≡ Some ((p, n), []) → ParAt g FILE_LIMITS p n ws [] × (n ≤ MOST_PROCESS_LEVELS)
+  whole_at g ws p n e =
+      subst (λ (r : Read Levelled). OnRead (λ w b. ParAt g FILE_LIMITS w.0 w.1 ws b × (w.1 ≤ MOST_PROCESS_LEVELS)) r) e (par_sound read g FILE_LIMITS MOST_PROCESS_LEVELS ws)
+
+  -- it is a process
+  pub whole_is : (g : Sig) (ws : List Word) (p : Located) (n : ℕ) → par g FILE_LIMITS MOST_PROCESS_LEVELS ws ≡ Some ((p, n), []) → IsProcess g (without_numbers p) ws
+  whole_is g ws p n e = let is = whole_at g ws p n e in let at = is.0 in record { levels = n; spelled = at.spelled; few_levels = is.1 }
+
+  -- and however it is spelled, these are its numbers
+  pub whole_places : (g : Sig) (ws : List Word) (p : Located) (n : ℕ) → par g FILE_LIMITS MOST_PROCESS_LEVELS ws ≡ Some ((p, n), [])
+      → (q : Written) (k : ℕ) (r : IsPar g FILE_LIMITS q k ws []) → par_located r ≡ p
+  whole_places g ws p n e q k r =
+      let is = whole_at g ws p n e in
+      let at = is.0 in
+      let same = one_located read r at.spelled at_last at_last in
+      same.0 ∙ at.located
 
   -- words that are a process under some signature are read to the last word under each
-  pub whole_read : (g h : Sig) (ws : List Word) (p : Written) → IsProcess h p ws → (q : Written) × (n : ℕ) × (par g FILE_LIMITS MOST_PROCESS_LEVELS ws ≡ Some ((q, n), []))
-  whole_read g h ws p r = let too = par_too spelled g r.spelled in (too.0, r.levels, par_read read too.1 MOST_PROCESS_LEVELS r.few_levels at_last)
+  pub whole_read : (g h : Sig) (ws : List Word) (p : Written) → IsProcess h p ws → (q : Located) × (n : ℕ) × (par g FILE_LIMITS MOST_PROCESS_LEVELS ws ≡ Some ((q, n), []))
+  whole_read g h ws p r = let too = par_too spelled g r.spelled in (par_located too.1, r.levels, par_read read too.1 MOST_PROCESS_LEVELS r.few_levels at_last)
 
   pub nothing_whole : (g : Sig) (ws : List Word) → par g FILE_LIMITS MOST_PROCESS_LEVELS ws ≡ None → (h : Sig) (p : Written) → IsProcess h p ws → ⊥
   nothing_whole g ws e h p r = let other = whole_read g h ws p r in let found = other.2 in absurd (cc (e, found))
@@ -47,7 +62,7 @@ module _ (read : AreRead) (spelled : AreSpelled) where
   some_whole g ws = by (par g FILE_LIMITS MOST_PROCESS_LEVELS ws) refl
     where
       ended : (r : Levelled × List Word) → par g FILE_LIMITS MOST_PROCESS_LEVELS ws ≡ Some r → (b : List Word) → r.1 ≡ b → ((p : Written) × IsProcess g p ws) ⊎ ((p : Written) → IsProcess g p ws → ⊥)
-      ended r e [] q = inl (r.0.0, whole_is g ws r.0.0 r.0.1 (e ∙ ap (λ (b : List Word). Some (r.0, b)) q))
+      ended r e [] q = inl (without_numbers r.0.0, whole_is g ws r.0.0 r.0.1 (e ∙ ap (λ (b : List Word). Some (r.0, b)) q))
       ended r e (w ∷ more) q = inr (no_other_whole g ws r.1 r.0 e (λ none. absurd (cc (q, none))) g)
 
       by : (o : Read Levelled) → par g FILE_LIMITS MOST_PROCESS_LEVELS ws ≡ o → ((p : Written) × IsProcess g p ws) ⊎ ((p : Written) → IsProcess g p ws → ⊥)

@@ -3,6 +3,8 @@ pub use Rattle.sap_grammar.specs.Words
 pub use Rattle.sap_grammar.specs.TermGrammar
 pub use Rattle.sap_grammar.specs.FactGrammar
 pub mod ProcessGrammar
+pub mod LocatedProcesses
 pub mod Printable
 pub mod ProcessExamples
+pub mod LocatedExamples
 pub mod code

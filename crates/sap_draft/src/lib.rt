@@ -6,7 +6,8 @@ mod limits;
 mod process;
 
 pub use laws::{
-    one_process, processes_are_printable, processes_by_hand, same_processes, some_process,
+    located_by_hand, located_processes, one_process, processes_are_printable, processes_by_hand,
+    same_processes, some_process,
 };
 pub use limits::FILE_LIMITS;
 pub use process::read_process;

@@ -191,15 +191,15 @@ known_next names k n x is = ap (λ ns. is_known ns x) (take_got names k n is) �
 
 -- ---- chains of names without parameters
 
-pub chain_steps : (ds : List Definition) (form body : Source) (f : List ℕ) (us : List Tree) → form ≡ Call f us → steps_in ds (written body) < steps_in ds (call f [])
+pub chain_steps : (ds : List Definition) (form body : Source) (n : ℕ) (f : List ℕ) (us : List Tree) → form ≡ Call n f us → steps_in ds (written body) < steps_in ds (call f [])
     → steps_in ds (written body) < steps_in ds (written form)
 unfolding steps_in
-chain_steps ds form body f us e h = subst (λ s. steps_in ds (written body) < steps_in ds (written s)) (sym e) h
+chain_steps ds form body n f us e h = subst (λ s. steps_in ds (written body) < steps_in ds (written s)) (sym e) h
 
-pub chain_same : (ds : List Definition) (form body : Source) (source : Written) (f : List ℕ) (us : List Tree) → form ≡ Call f us
+pub chain_same : (ds : List Definition) (form body : Source) (source : Written) (n : ℕ) (f : List ℕ) (us : List Tree) → form ≡ Call n f us
     → ((ts : List Tree) → plain_of ds f ts ≡ with_uses (plain_of ds) (written body))
     → with_uses (plain_of ds) (written form) ≡ with_uses (plain_of ds) source → with_uses (plain_of ds) (written body) ≡ with_uses (plain_of ds) source
-chain_same ds form body source f us e h same = sym (h us) ∙ sym (ap (λ s. with_uses (plain_of ds) (written s)) e) ∙ same
+chain_same ds form body source n f us e h same = sym (h us) ∙ sym (ap (λ s. with_uses (plain_of ds) (written s)) e) ∙ same
 
 -- one parameter more, from the last one on
 pub params_next : (params : List (List ℕ)) (args : List Tree) (k : ℕ) (name at : List ℕ) (t : Term) (terms later : List (List ℕ × Term)) → 0 < k → slice_get params (k - 1) ≡ Some at

@@ -3,6 +3,7 @@ pub mod NameExamples
 pub mod AlikeConfigurations
 pub mod AlikeExamples
 pub mod Written
+pub mod Located
 pub mod Walked
 pub mod NewNames
 pub mod Expansion

@@ -10,12 +10,12 @@ pub(crate) fn below(source: &Source) -> Below<'_>
     ensures { IsBelow result (written source.now) }
 {
     match source {
-        Source::Nil => Below::Nothing,
-        Source::Call(f, ts) => Below::Use(f, ts),
-        Source::Rep(p) => Below::One(p),
-        Source::Act(_, p) => Below::One(p),
-        Source::Par(p, q) => Below::Two(p, q),
-        Source::If(_, _, p, q) => Below::Two(p, q),
-        Source::Lookup(_, _, p, q) => Below::Two(p, q),
+        Source::Nil(_) => Below::Nothing,
+        Source::Call(_, f, ts) => Below::Use(f, ts),
+        Source::Rep(_, p) => Below::One(p),
+        Source::Act(_, _, p) => Below::One(p),
+        Source::Par(_, p, q) => Below::Two(p, q),
+        Source::If(_, _, _, p, q) => Below::Two(p, q),
+        Source::Lookup(_, _, _, p, q) => Below::Two(p, q),
     }
 }

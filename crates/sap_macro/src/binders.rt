@@ -104,8 +104,8 @@ fn add_head(
     ensures { OnOk result (own.new ≡ with_names own.old (head_names (λ x. is_some (value_at terms.now x)) (written form.now))) }
 {
     match form {
-        Source::Act(first, _) => add_doing(alloc, terms, own, first),
-        Source::Lookup(_, x, _, _) => {
+        Source::Act(_, first, _) => add_doing(alloc, terms, own, first),
+        Source::Lookup(_, _, x, _, _) => {
             own.insert(&x.name)?;
             Ok(())
         }

@@ -182,7 +182,7 @@ fn reached<'a>(
         return Ok(None);
     };
     let (mut inner, mut at) = passed(alloc, defs, index, s, chosen, d, args)?;
-    while let Source::Call(further, terms) = at {
+    while let Source::Call(_, further, terms) = at {
         match definition_named(defs, index, further) {
             None => return Ok(Some((inner, at))),
             Some(e) => {

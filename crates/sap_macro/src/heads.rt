@@ -68,8 +68,8 @@ pub(crate) fn over_one(
     ensures { IfOk result (λ p. proc p.value ≡ headed s.now (written form.now) (proc next.value)) }
 {
     match form {
-        Source::Act(first, _) => acting(alloc, s, first, next),
-        Source::Rep(_) => repeated(alloc, next),
+        Source::Act(_, first, _) => acting(alloc, s, first, next),
+        Source::Rep(_, _) => repeated(alloc, next),
         _ => Ok(next),
     }
 }
@@ -86,9 +86,16 @@ pub(crate) fn over_two(
         ≡ forked s.now (written form.now) (proc left.value) (proc right.value)) }
 {
     match form {
-        Source::Par(_, _) => side_by_side(alloc, left, right),
-        Source::If(t, u, _, _) => testing(alloc, s, t, u, left, right),
-        Source::Lookup(t, x, _, _) => looking_up(alloc, s, t, bound_in(alloc, s, x)?, left, right),
+        Source::Par(_, _, _) => side_by_side(alloc, left, right),
+        Source::If(_, t, u, _, _) => testing(alloc, s, t, u, left, right),
+        Source::Lookup(_, t, x, _, _) => looking_up(
+            alloc,
+            s,
+            t,
+            bound_in(alloc, s, x)?,
+            left,
+            right,
+        ),
         _ => Ok(left),
     }
 }

@@ -76,7 +76,7 @@ pub(crate) fn form_of<'a>(defs: &'a DefinitionList, index: &Index, source: &'a S
     ensures formed { IsFormed (definitions defs.now) (written result.now) }
 {
     let mut form = source;
-    while let Source::Call(name, _) = form {
+    while let Source::Call(_, name, _) = form {
         match plain_body(defs, index, name) {
             Some(body) => form = body,
             None => return form,

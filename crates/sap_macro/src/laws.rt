@@ -14,14 +14,17 @@ ghost use Rattle.sap_process.specs.ProcessSteps.{ProcessStep, ProcessRun, IsProc
 ghost use Rattle.sap_macro.specs.AlikeConfigurations.{AreAlikeConfigs};
 ghost use Rattle.sap_macro.specs.Expansion.{meaning_of, entered, expanded, expansion, plain, plain_after, plain_bodies, unchanged, same_name, where_none, with_plain_body};
 ghost use Rattle.sap_macro.specs.Indexed.{defined};
+ghost use Rattle.sap_macro.specs.Located.{without_numbers};
 ghost use Rattle.sap_macro.specs.Instances.{instance_by, IsClosed, AreClosedAmong, Keeps, AreTaken};
 ghost use Rattle.sap_macro.specs.NewNames.{IsNewName, candidate, new_name};
 ghost use Rattle.sap_macro.specs.Order.{AreInOrder, UsesOnly, with_parameters};
 ghost use Rattle.sap_macro.specs.Replaced.{AreWithoutParameters, nothing_stands, process_of};
 ghost use Rattle.sap_macro.specs.Seen.{seen};
+ghost use Rattle.sap_macro.specs.Sources.{written, located};
 ghost use Rattle.sap_macro.specs.UpToNames.{Pair, lefts, rights, AreAlike, AreSameUpToNames};
 ghost use Rattle.sap_macro.specs.UsesAreInstances.{UsesAreInstances};
 ghost use Rattle.sap_macro.specs.Written.{Written, call, Definition};
+ghost use Rattle.sap_macro.specs.declared.source.Source.{Source};
 
 use sap_rewrite::{equality_is_kept, normal_forms_are_unique};
 
@@ -116,6 +119,11 @@ pub fn plain_names_stand_for_bodies()
 pub fn plain_uses_have_parameters()
     ensures { (ds : List Definition) (p : Written) → AreInOrder [] ds → UsesOnly (defined ds) p
         → UsesOnly (with_parameters [] ds) (plain ds p) }
+{}
+
+/// A law: what is written with its numbers is, without them, what is written.
+pub fn located_is_written()
+    ensures { (s : Source) → without_numbers (located s) ≡ written s }
 {}
 
 /// A law: where fewer than 2^64 - 1 names are taken, the number of a new name is one of 64 bits. So it has at most 20 digits.

@@ -26,8 +26,8 @@ pub use by_hand::{
 pub use definition::{Definition, DefinitionList};
 pub use index::{Index, definition_named, index_of};
 pub use laws::{
-    alike_configurations_show_the_same, expansions_are_one, new_names_are_least,
-    new_names_are_short, plain_files_stay, plain_names_stand_for_bodies,
+    alike_configurations_show_the_same, expansions_are_one, located_is_written,
+    new_names_are_least, new_names_are_short, plain_files_stay, plain_names_stand_for_bodies,
     plain_uses_have_parameters, same_up_to_names_is_symmetric_and_transitive,
     same_up_to_names_show_the_same, sizes_are_one, uses_are_instances, uses_show_their_instances,
 };

@@ -24,12 +24,14 @@ fn nodes(sizes: &NameMap<Size>, source: &Source) -> u64
     ensures { result ≡ min (nodes_in sizes.now (written source.now)) u64.MAX }
 {
     match source {
-        Source::Nil => 1,
-        Source::Call(f, _) => sizes.get(f).map_or(1, |s| s.nodes),
-        Source::Par(p, q) | Source::If(_, _, p, q) | Source::Lookup(_, _, p, q) => nodes(sizes, p)
-            .saturating_add(nodes(sizes, q))
-            .saturating_add(1),
-        Source::Rep(p) | Source::Act(_, p) => nodes(sizes, p).saturating_add(1),
+        Source::Nil(_) => 1,
+        Source::Call(_, f, _) => sizes.get(f).map_or(1, |s| s.nodes),
+        Source::Par(_, p, q) | Source::If(_, _, _, p, q) | Source::Lookup(_, _, _, p, q) => {
+            nodes(sizes, p)
+                .saturating_add(nodes(sizes, q))
+                .saturating_add(1)
+        }
+        Source::Rep(_, p) | Source::Act(_, _, p) => nodes(sizes, p).saturating_add(1),
     }
 }
 
@@ -38,12 +40,12 @@ fn levels(sizes: &NameMap<Size>, source: &Source) -> u64
     ensures { result ≡ min (levels_in sizes.now (written source.now)) u64.MAX }
 {
     match source {
-        Source::Nil => 1,
-        Source::Call(f, _) => sizes.get(f).map_or(1, |s| s.levels),
-        Source::Par(p, q) | Source::If(_, _, p, q) | Source::Lookup(_, _, p, q) => {
+        Source::Nil(_) => 1,
+        Source::Call(_, f, _) => sizes.get(f).map_or(1, |s| s.levels),
+        Source::Par(_, p, q) | Source::If(_, _, _, p, q) | Source::Lookup(_, _, _, p, q) => {
             levels(sizes, p).max(levels(sizes, q)).saturating_add(1)
         }
-        Source::Rep(p) | Source::Act(_, p) => levels(sizes, p).saturating_add(1),
+        Source::Rep(_, p) | Source::Act(_, _, p) => levels(sizes, p).saturating_add(1),
     }
 }
 

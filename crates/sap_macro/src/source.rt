@@ -17,17 +17,20 @@ pub enum Doing {
     Embedded(FactList, FactList, FactList),
 }
 
-/// A process as it is written. Contracts see it as a plain tree, by `written` of the specs' `Sources`.
+/// A process as it is written. Each form begins with a number: how many words of the item are left from the word that tells its
+/// place. That is the first word of the form, of a parallel its sign; what is missing, a `0` that nobody wrote, has the number of
+/// the form behind which it is missing. Contracts see it as a plain tree, by `written` of the specs' `Sources`, and with its
+/// numbers by `located` there.
 #[derive(Drop)]
 pub enum Source {
-    Nil,
+    Nil(usize),
     /// The name of a process, with its arguments.
-    Call(Name, TermList),
-    Par(Box<Source>, Box<Source>),
-    Rep(Box<Source>),
-    Act(Box<Doing>, Box<Source>),
-    If(Term, Term, Box<Source>, Box<Source>),
-    Lookup(Term, Var, Box<Source>, Box<Source>),
+    Call(usize, Name, TermList),
+    Par(usize, Box<Source>, Box<Source>),
+    Rep(usize, Box<Source>),
+    Act(usize, Box<Doing>, Box<Source>),
+    If(usize, Term, Term, Box<Source>, Box<Source>),
+    Lookup(usize, Term, Var, Box<Source>, Box<Source>),
 }
 
 /// What stands directly below a process as it is written.

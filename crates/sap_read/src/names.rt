@@ -23,16 +23,16 @@ fn first_unknown<'a>(names: &NameSet, source: &'a Source) -> Option<&'a Name>
     ensures { option_copied result ≡ unknown_among names.now (calls (written source.now)) }
 {
     match source {
-        Source::Nil => None,
-        Source::Call(x, _) if names.contains(x) => None,
-        Source::Call(x, _) => Some(x),
-        Source::Par(p, q) | Source::If(_, _, p, q) | Source::Lookup(_, _, p, q) => {
+        Source::Nil(_) => None,
+        Source::Call(_, x, _) if names.contains(x) => None,
+        Source::Call(_, x, _) => Some(x),
+        Source::Par(_, p, q) | Source::If(_, _, _, p, q) | Source::Lookup(_, _, _, p, q) => {
             match first_unknown(names, p) {
                 None => first_unknown(names, q),
                 found => found,
             }
         }
-        Source::Rep(p) | Source::Act(_, p) => first_unknown(names, p),
+        Source::Rep(_, p) | Source::Act(_, _, p) => first_unknown(names, p),
     }
 }
 

@@ -87,11 +87,11 @@ fn other_in<'a>(counts: &NameMap<u64>, source: &'a Source) -> Option<&'a Name>
     ensures { option_copied result ≡ first_other (λ f. unwrap_or (value_at counts.now f) 0) (uses (written source.now)) }
 {
     match source {
-        Source::Nil => None,
-        Source::Call(name, args) if args.len() == count(counts, name) => None,
-        Source::Call(name, _) => Some(name),
-        Source::Rep(p) | Source::Act(_, p) => other_in(counts, p),
-        Source::Par(p, q) | Source::If(_, _, p, q) | Source::Lookup(_, _, p, q) => {
+        Source::Nil(_) => None,
+        Source::Call(_, name, args) if args.len() == count(counts, name) => None,
+        Source::Call(_, name, _) => Some(name),
+        Source::Rep(_, p) | Source::Act(_, _, p) => other_in(counts, p),
+        Source::Par(_, p, q) | Source::If(_, _, _, p, q) | Source::Lookup(_, _, _, p, q) => {
             match other_in(counts, p) {
                 None => other_in(counts, q),
                 found => found,

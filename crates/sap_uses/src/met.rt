@@ -31,17 +31,17 @@ fn met_first<'a>(defs: &'a DefinitionList, index: &Index, source: &'a Source) ->
     ensures { IsMet (definitions defs.now) result (written source.now) }
 {
     match source {
-        Source::Nil => Met::Nothing,
-        Source::Call(name, args) => match definition_named(defs, index, name) {
+        Source::Nil(_) => Met::Nothing,
+        Source::Call(_, name, args) => match definition_named(defs, index, name) {
             None => Met::Nothing,
             Some(d) if d.params.len() == 0 => Met::Plain(&d.body),
             Some(d) => Met::Use(d, args),
         },
-        Source::Rep(p) => Met::One(p),
-        Source::Act(_, p) => Met::One(p),
-        Source::Par(p, q) => Met::Two(p, q),
-        Source::If(_, _, p, q) => Met::Two(p, q),
-        Source::Lookup(_, _, p, q) => Met::Two(p, q),
+        Source::Rep(_, p) => Met::One(p),
+        Source::Act(_, _, p) => Met::One(p),
+        Source::Par(_, p, q) => Met::Two(p, q),
+        Source::If(_, _, _, p, q) => Met::Two(p, q),
+        Source::Lookup(_, _, _, p, q) => Met::Two(p, q),
     }
 }
 

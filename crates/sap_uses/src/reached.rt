@@ -13,13 +13,13 @@ fn add_uses(names: &mut NameSet, source: &Source) -> Result<(), Mem>
     ensures { OnOk result (names.new ≡ marked names.old (written source.now)) }
 {
     match source {
-        Source::Nil => Ok(()),
-        Source::Call(name, _) => {
+        Source::Nil(_) => Ok(()),
+        Source::Call(_, name, _) => {
             names.insert(name)?;
             Ok(())
         }
-        Source::Rep(p) | Source::Act(_, p) => add_uses(names, p),
-        Source::Par(p, q) | Source::If(_, _, p, q) | Source::Lookup(_, _, p, q) => {
+        Source::Rep(_, p) | Source::Act(_, _, p) => add_uses(names, p),
+        Source::Par(_, p, q) | Source::If(_, _, _, p, q) | Source::Lookup(_, _, _, p, q) => {
             add_uses(names, p)?;
             add_uses(names, q)
         }

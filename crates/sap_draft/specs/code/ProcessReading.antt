@@ -1,7 +1,9 @@
--- Reading processes from the left, within a number of levels, as the code does it.
+-- Reading processes from the left, within a number of levels, as the code does it. What is read keeps how many words are left from
+-- the word that tells each place.
 use Rattle.std.specs.Prelude.{ℕ, zero, suc, ◌+◌, max, Bool, true, false, ◌||◌, nat_le, if◌then◌else◌, codes, List, [], length, drop, Option, Some, None}
 use Rattle.sap_terms.specs.declared.fact.Fact.{Fact}
 use Rattle.sap_terms.specs.declared.var.Sort.{Sort}
+use Rattle.sap_terms.specs.declared.var.Var.{Var}
 use Rattle.sap_terms.specs.declared.var.Sort.TheVariants.{Msg, Fresh}
 use Rattle.sap_terms.specs.Tree.{Tree}
 use Rattle.sap_terms.specs.Signature.{Sig}
@@ -11,7 +13,7 @@ use Rattle.sap_grammar.specs.Reading.{Reader, after, given, list_of, name_at, pa
 use Rattle.sap_grammar.specs.TermReading.{short_term, short_fact, facts}
 use Rattle.sap_draft.specs.ProcessGrammar.{var}
 use Rattle.sap_process.specs.Action.{Action, new, out, send, input, receive, event, insert, delete, lock, unlock, embedded}
-use Rattle.sap_macro.specs.Written.{Written, nil, call, parallel, replicated, act, test, lookup}
+use Rattle.sap_macro.specs.Located.{Located, nil_at, call_at, parallel_at, replicated_at, act_at, test_at, lookup_at}
 
 -- this mark behind what is read already
 abbrev pub up_to : {A : Type 0} → List ℕ → A → Reader A
@@ -80,35 +82,42 @@ action_of g m ws =
 
 -- a process with the levels of its text
 abbrev pub Levelled : Type 0
-Levelled = Written × ℕ
+Levelled = Located × ℕ
 
--- how a process that chooses puts its two branches together
+-- how a process that chooses puts its two branches together, behind the number of its first word
 abbrev pub Choosing : Type 0
-Choosing = Written → Written → Written
+Choosing = ℕ → Located → Located → Located
+
+abbrev pub by_test : Tree → Tree → Choosing
+by_test t u k = test_at k t u
+
+abbrev pub by_lookup : Tree → Var → Choosing
+by_lookup t x k = lookup_at k t x
 
 -- the second branch, behind `else`
-abbrev pub second_branch : Reader Levelled → Choosing → Levelled → Reader Levelled
-second_branch seq made p ws = after (seq ws) (λ q r. Some ((made p.0 q.0, max p.1 q.1 + 1), r))
+abbrev pub second_branch : Reader Levelled → ℕ → Choosing → Levelled → Reader Levelled
+second_branch seq k made p ws = after (seq ws) (λ q r. Some ((made k p.0 q.0, max p.1 q.1 + 1), r))
 
 -- a branch, and the second if one stands
-abbrev pub branches : Reader Levelled → Choosing → Reader Levelled
-branches seq made ws = after (seq ws) (λ p r.
-    if starts (codes "else") r then second_branch seq made p (drop 1 r) else Some ((made p.0 nil, max p.1 1 + 1), r))
+abbrev pub branches : Reader Levelled → ℕ → Choosing → Reader Levelled
+branches seq k made ws = after (seq ws) (λ p r.
+    if starts (codes "else") r then second_branch seq k made p (drop 1 r)
+    else Some ((made k p.0 (nil_at k), max p.1 1 + 1), r))
 
 -- behind the first of two terms that are compared
 abbrev pub equality : Sig → Limits → Tree → Reader Choosing
-equality g m t ws = past (codes "=") ws (λ r. after (short_term g m r) (λ u z. up_to (codes "then") (test t u) z))
+equality g m t ws = past (codes "=") ws (λ r. after (short_term g m r) (λ u z. up_to (codes "then") (by_test t u) z))
 
 -- behind `if`, up to the first branch
 abbrev pub compared : Sig → Limits → Reader Choosing
 compared g m ws = after (short_term g m ws) (λ t r. equality g m t r)
 
-abbrev pub condition : Sig → Limits → Reader Levelled → Reader Levelled
-condition g m seq ws = after (compared g m ws) (λ made r. branches seq made r)
+abbrev pub condition : Sig → Limits → Reader Levelled → ℕ → Reader Levelled
+condition g m seq k ws = after (compared g m ws) (λ made r. branches seq k made r)
 
 -- behind the name in a lookup
 abbrev pub found : Tree → List ℕ → Reader Choosing
-found t x ws = up_to (codes "in") (lookup t (var Msg x)) ws
+found t x ws = up_to (codes "in") (by_lookup t (var Msg x)) ws
 
 -- behind the term in a lookup
 abbrev pub entry : Tree → Reader Choosing
@@ -118,49 +127,50 @@ entry t ws = past (codes "as") ws (λ r. given (name_at r) (λ x. found t x (dro
 abbrev pub looked_up : Sig → Limits → Reader Choosing
 looked_up g m ws = after (short_term g m ws) (λ t r. entry t r)
 
-abbrev pub looking : Sig → Limits → Reader Levelled → Reader Levelled
-looking g m seq ws = after (looked_up g m ws) (λ made r. branches seq made r)
+abbrev pub looking : Sig → Limits → Reader Levelled → ℕ → Reader Levelled
+looking g m seq k ws = after (looked_up g m ws) (λ made r. branches seq k made r)
 
--- behind an action; a missing continuation has one level too
-abbrev pub going_on : Reader Levelled → ℕ → Action → Reader Levelled
-going_on seq d x ws =
-    if starts (codes ";") ws then after (seq (drop 1 ws)) (λ p z. Some ((act x p.0, p.1 + 1), z))
-    else if nat_le 1 d then Some ((act x nil, 2), ws) else None
+-- behind an action whose first word has this number; a missing continuation has it too, and one level
+abbrev pub going_on : Reader Levelled → ℕ → ℕ → Action → Reader Levelled
+going_on seq d k x ws =
+    if starts (codes ";") ws then after (seq (drop 1 ws)) (λ p z. Some ((act_at k x p.0, p.1 + 1), z))
+    else if nat_le 1 d then Some ((act_at k x (nil_at k), 2), ws) else None
 
 -- the arguments of a use, one or more, and the closing parenthesis
 abbrev pub arguments : Sig → Limits → Reader (List Tree)
 arguments g m ws = list_of (codes ")") (short_term g m) (length ws) ws
 
 -- behind the name of a process: its arguments, where a parenthesis opens
-abbrev pub used : Sig → Limits → List ℕ → Reader Levelled
-used g m x ws =
-    if starts (codes "(") ws then after (arguments g m (drop 1 ws)) (λ ts r. Some ((call x ts, 1), r)) else Some ((call x [], 1), ws)
+abbrev pub used : Sig → Limits → ℕ → List ℕ → Reader Levelled
+used g m k x ws =
+    if starts (codes "(") ws then after (arguments g m (drop 1 ws)) (λ ts r. Some ((call_at k x ts, 1), r))
+    else Some ((call_at k x [], 1), ws)
 
 -- the name of a process, or what an action begins
 abbrev pub call_or_action : Sig → Limits → Reader Levelled → ℕ → Option (List ℕ) → Reader Levelled
-call_or_action g m seq d (Some x) ws = used g m x (drop 1 ws)
-call_or_action g m seq d None ws = after (action_of g m ws) (going_on seq d)
+call_or_action g m seq d (Some x) ws = used g m (length ws) x (drop 1 ws)
+call_or_action g m seq d None ws = after (action_of g m ws) (going_on seq d (length ws))
 
 -- behind an opening parenthesis
 abbrev pub enclosed : Reader Levelled → Reader Levelled
 enclosed par ws = after (par ws) (λ p r. past (codes ")") r (λ z. Some ((p.0, p.1 + 1), z)))
 
 -- behind `!`
-abbrev pub repeated : Reader Levelled → Reader Levelled
-repeated seq ws = after (seq ws) (λ p r. Some ((replicated p.0, p.1 + 1), r))
+abbrev pub repeated : Reader Levelled → ℕ → Reader Levelled
+repeated seq k ws = after (seq ws) (λ p r. Some ((replicated_at k p.0, p.1 + 1), r))
 
 abbrev pub seq_at : Sig → Limits → Reader Levelled → Reader Levelled → ℕ → Reader Levelled
 seq_at g m seq par d ws =
     if starts (codes "(") ws then enclosed par (drop 1 ws)
-    else if starts (codes "!") ws then repeated seq (drop 1 ws)
-    else if starts (codes "if") ws then condition g m seq (drop 1 ws)
-    else if starts (codes "lookup") ws then looking g m seq (drop 1 ws)
-    else if starts_zero ws then Some ((nil, 1), drop 1 ws)
+    else if starts (codes "!") ws then repeated seq (length ws) (drop 1 ws)
+    else if starts (codes "if") ws then condition g m seq (length ws) (drop 1 ws)
+    else if starts (codes "lookup") ws then looking g m seq (length ws) (drop 1 ws)
+    else if starts_zero ws then Some ((nil_at (length ws), 1), drop 1 ws)
     else call_or_action g m seq d (name_at ws) ws
 
--- what stands beside a process
-abbrev pub beside : Reader Levelled → Levelled → Reader Levelled
-beside par p ws = after (par ws) (λ q r. Some ((parallel p.0 q.0, max p.1 q.1 + 1), r))
+-- what stands beside a process, behind a sign of this number
+abbrev pub beside : Reader Levelled → ℕ → Levelled → Reader Levelled
+beside par k p ws = after (par ws) (λ q r. Some ((parallel_at k p.0 q.0, max p.1 q.1 + 1), r))
 
 -- one of the two signs of the parallel stands first
 abbrev pub starts_bar : List Word → Bool
@@ -168,7 +178,7 @@ starts_bar ws = starts (codes "|") ws || starts (codes "||") ws
 
 -- `here` reads as many levels, `par` one less, `d` the levels of `par`
 abbrev pub par_at : Reader Levelled → Reader Levelled → ℕ → Reader Levelled
-par_at here par d ws = after (here ws) (λ p r. if starts_bar r then (if nat_le p.1 d then beside par p (drop 1 r) else None) else Some (p, r))
+par_at here par d ws = after (here ws) (λ p r. if starts_bar r then (if nat_le p.1 d then beside par (length r) p (drop 1 r) else None) else Some (p, r))
 
 unfoldable mutual
   pub seq : Sig → Limits → ℕ → Reader Levelled

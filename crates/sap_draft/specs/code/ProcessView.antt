@@ -9,13 +9,12 @@ use Rattle.sap_draft.specs.declared.process.actions.Deed.TheVariants.{Delete, Lo
 use Rattle.sap_draft.specs.declared.process.build.Branching.{Branching}
 use Rattle.sap_draft.specs.declared.process.build.Measured.{Measured}
 use Rattle.sap_draft.specs.declared.process.build.Branching.TheVariants.{Equality, Lookup}
-use Rattle.sap_macro.specs.Written.{Written, test, lookup}
-use Rattle.sap_draft.specs.code.ProcessReading.{Levelled}
-use Rattle.sap_macro.specs.Sources.{written}
+use Rattle.sap_draft.specs.code.ProcessReading.{Levelled, Choosing, by_test, by_lookup}
+use Rattle.sap_macro.specs.Sources.{located}
 
--- the process as it is written, and the levels of its text
+-- the process as it is written, with its numbers, and the levels of its text
 abbrev pub levelled : Measured → Levelled
-levelled m = (written m.source.value, m.levels)
+levelled m = (located m.source.value, m.levels)
 
 -- what is done with a message that goes this way
 abbrev pub to_adversary : Way → Tree → Action
@@ -33,6 +32,6 @@ on_one Lock = λ t. lock t 0
 on_one Unlock = λ t. unlock t 0
 
 -- the two branches with what chooses between them
-abbrev pub chosen : Branching → Written → Written → Written
-chosen (Equality t u) = test (tree t) (tree u)
-chosen (Lookup t x) = lookup (tree t) x
+abbrev pub chosen : Branching → Choosing
+chosen (Equality t u) = by_test (tree t) (tree u)
+chosen (Lookup t x) = by_lookup (tree t) x

@@ -4,7 +4,7 @@ ghost use Rattle.sap_grammar.specs.Words.{words_of};
 ghost use Rattle.sap_grammar.specs.Reading.{Gives, name_at};
 ghost use Rattle.sap_draft.specs.code.ProcessReading.{second_branch, branches, condition, looking, going_on, call_or_action, enclosed, repeated, beside, starts_bar, seq, par};
 ghost use Rattle.sap_draft.specs.code.ProcessView.{chosen, levelled};
-ghost use Rattle.sap_macro.specs.Sources.{doing, written};
+ghost use Rattle.sap_macro.specs.Sources.{doing, located};
 ghost use Rattle.sap_draft.specs.declared.limits.TheConstants.{FILE_LIMITS};
 
 use crate::process::actions::read_action;
@@ -30,6 +30,7 @@ fn read_second_branch<'a>(
     sig: &Signature,
     bytes: &[u8],
     depth: u32,
+    at: usize,
     choice: Box<Branching>,
     yes: Box<Source>,
     levels: u32,
@@ -37,8 +38,8 @@ fn read_second_branch<'a>(
 ) -> Result<Option<(Measured, &'a [Token])>, Mem>
     requires deep { depth < 2 ^ 30 }
     requires within { levels ≤ depth }
-    ensures gives { Gives bytes.now levelled result (second_branch (seq sig.now FILE_LIMITS depth)
-        (chosen choice.value) (written yes.value, levels) (words_of bytes.now tokens.now)) }
+    ensures gives { Gives bytes.now levelled result (second_branch (seq sig.now FILE_LIMITS depth) at
+        (chosen choice.value) (located yes.value, levels) (words_of bytes.now tokens.now)) }
     ensures within { IfOk result (λ o. IfSome o (λ r. (1 ≤ r.0.levels)
         × (r.0.levels ≤ depth + 1))) }
 {
@@ -53,7 +54,7 @@ fn read_second_branch<'a>(
                 rest,
             ),
         ) => {
-            let process = choosing(alloc, choice, yes, no)?;
+            let process = choosing(alloc, at, choice, yes, no)?;
             Ok(Some((
                 Measured {
                     source: process,
@@ -72,11 +73,12 @@ fn read_branches<'a>(
     sig: &Signature,
     bytes: &[u8],
     depth: u32,
+    at: usize,
     choice: Box<Branching>,
     tokens: &'a [Token],
 ) -> Result<Option<(Measured, &'a [Token])>, Mem>
     requires { depth < 2 ^ 30 }
-    ensures gives { Gives bytes.now levelled result (branches (seq sig.now FILE_LIMITS depth)
+    ensures gives { Gives bytes.now levelled result (branches (seq sig.now FILE_LIMITS depth) at
         (chosen choice.value) (words_of bytes.now tokens.now)) }
     ensures within { IfOk result (λ o. IfSome o (λ r. (1 ≤ r.0.levels)
         × (r.0.levels ≤ depth + 1))) }
@@ -94,9 +96,9 @@ fn read_branches<'a>(
         ) => {
             if starts(bytes, rest, "else") {
                 let rest = beyond(1, rest);
-                read_second_branch(alloc, sig, bytes, depth, choice, yes, levels, rest)
+                read_second_branch(alloc, sig, bytes, depth, at, choice, yes, levels, rest)
             } else {
-                let process = choosing_one(alloc, choice, yes)?;
+                let process = choosing_one(alloc, at, choice, yes)?;
                 Ok(Some((
                     Measured {
                         source: process,
@@ -116,17 +118,18 @@ fn read_condition<'a>(
     sig: &Signature,
     bytes: &[u8],
     depth: u32,
+    at: usize,
     tokens: &'a [Token],
 ) -> Result<Option<(Measured, &'a [Token])>, Mem>
     requires { depth < 2 ^ 30 }
     ensures gives { Gives bytes.now levelled result (condition sig.now FILE_LIMITS
-        (seq sig.now FILE_LIMITS depth) (words_of bytes.now tokens.now)) }
+        (seq sig.now FILE_LIMITS depth) at (words_of bytes.now tokens.now)) }
     ensures within { IfOk result (λ o. IfSome o (λ r. (1 ≤ r.0.levels)
         × (r.0.levels ≤ depth + 1))) }
 {
     match read_compared(alloc, sig, bytes, tokens)? {
         None => Ok(None),
-        Some((choice, rest)) => read_branches(alloc, sig, bytes, depth, choice, rest),
+        Some((choice, rest)) => read_branches(alloc, sig, bytes, depth, at, choice, rest),
     }
 }
 
@@ -137,17 +140,18 @@ fn read_lookup<'a>(
     sig: &Signature,
     bytes: &[u8],
     depth: u32,
+    at: usize,
     tokens: &'a [Token],
 ) -> Result<Option<(Measured, &'a [Token])>, Mem>
     requires { depth < 2 ^ 30 }
     ensures gives { Gives bytes.now levelled result (looking sig.now FILE_LIMITS
-        (seq sig.now FILE_LIMITS depth) (words_of bytes.now tokens.now)) }
+        (seq sig.now FILE_LIMITS depth) at (words_of bytes.now tokens.now)) }
     ensures within { IfOk result (λ o. IfSome o (λ r. (1 ≤ r.0.levels)
         × (r.0.levels ≤ depth + 1))) }
 {
     match read_looked_up(alloc, sig, bytes, tokens)? {
         None => Ok(None),
-        Some((choice, rest)) => read_branches(alloc, sig, bytes, depth, choice, rest),
+        Some((choice, rest)) => read_branches(alloc, sig, bytes, depth, at, choice, rest),
     }
 }
 
@@ -158,12 +162,13 @@ fn read_on<'a>(
     sig: &Signature,
     bytes: &[u8],
     depth: u32,
+    at: usize,
     first: Box<Doing>,
     tokens: &'a [Token],
 ) -> Result<Option<(Measured, &'a [Token])>, Mem>
     requires { depth < 2 ^ 30 }
     ensures gives { Gives bytes.now levelled result (going_on
-        (seq sig.now FILE_LIMITS depth) depth (doing first.value)
+        (seq sig.now FILE_LIMITS depth) depth at (doing first.value)
         (words_of bytes.now tokens.now)) }
     ensures within { IfOk result (λ o. IfSome o (λ r. (1 ≤ r.0.levels)
         × (r.0.levels ≤ depth + 1))) }
@@ -180,7 +185,7 @@ fn read_on<'a>(
                     rest,
                 ),
             ) => {
-                let process = boxed(alloc, Source::Act(first, then))?;
+                let process = boxed(alloc, Source::Act(at, first, then))?;
                 Ok(Some((
                     Measured {
                         source: process,
@@ -191,7 +196,7 @@ fn read_on<'a>(
             }
         }
     } else if 1 <= depth {
-        let process = acting_last(alloc, first)?;
+        let process = acting_last(alloc, at, first)?;
         Ok(Some((
             Measured {
                 source: process,
@@ -221,11 +226,11 @@ fn read_call_or_action<'a>(
         × (r.0.levels ≤ depth + 1))) }
 {
     if let Some(name) = name_at(bytes, tokens) {
-        return read_use(alloc, sig, bytes, name, beyond(1, tokens));
+        return read_use(alloc, sig, bytes, tokens.len(), name, beyond(1, tokens));
     }
     match read_action(alloc, sig, bytes, tokens)? {
         None => Ok(None),
-        Some((first, rest)) => read_on(alloc, sig, bytes, depth, first, rest),
+        Some((first, rest)) => read_on(alloc, sig, bytes, depth, tokens.len(), first, rest),
     }
 }
 
@@ -277,10 +282,11 @@ fn read_replicated<'a>(
     sig: &Signature,
     bytes: &[u8],
     depth: u32,
+    at: usize,
     tokens: &'a [Token],
 ) -> Result<Option<(Measured, &'a [Token])>, Mem>
     requires { depth < 2 ^ 30 }
-    ensures gives { Gives bytes.now levelled result (repeated (seq sig.now FILE_LIMITS depth)
+    ensures gives { Gives bytes.now levelled result (repeated (seq sig.now FILE_LIMITS depth) at
         (words_of bytes.now tokens.now)) }
     ensures within { IfOk result (λ o. IfSome o (λ r. (1 ≤ r.0.levels)
         × (r.0.levels ≤ depth + 1))) }
@@ -296,7 +302,7 @@ fn read_replicated<'a>(
                 rest,
             ),
         ) => {
-            let process = boxed(alloc, Source::Rep(copy))?;
+            let process = boxed(alloc, Source::Rep(at, copy))?;
             Ok(Some((
                 Measured {
                     source: process,
@@ -329,13 +335,13 @@ fn read_seq<'a>(
     if starts(bytes, tokens, "(") {
         read_enclosed(alloc, sig, bytes, depth - 1, next)
     } else if starts(bytes, tokens, "!") {
-        read_replicated(alloc, sig, bytes, depth - 1, next)
+        read_replicated(alloc, sig, bytes, depth - 1, tokens.len(), next)
     } else if starts(bytes, tokens, "if") {
-        read_condition(alloc, sig, bytes, depth - 1, next)
+        read_condition(alloc, sig, bytes, depth - 1, tokens.len(), next)
     } else if starts(bytes, tokens, "lookup") {
-        read_lookup(alloc, sig, bytes, depth - 1, next)
+        read_lookup(alloc, sig, bytes, depth - 1, tokens.len(), next)
     } else if starts_zero(bytes, tokens) {
-        let process = boxed(alloc, Source::Nil)?;
+        let process = boxed(alloc, Source::Nil(tokens.len()))?;
         Ok(Some((
             Measured {
                 source: process,
@@ -355,14 +361,15 @@ fn read_beside<'a>(
     sig: &Signature,
     bytes: &[u8],
     depth: u32,
+    at: usize,
     left: Box<Source>,
     levels: u32,
     tokens: &'a [Token],
 ) -> Result<Option<(Measured, &'a [Token])>, Mem>
     requires deep { depth < 2 ^ 30 }
     requires within { levels ≤ depth }
-    ensures gives { Gives bytes.now levelled result (beside (par sig.now FILE_LIMITS depth)
-        (written left.value, levels) (words_of bytes.now tokens.now)) }
+    ensures gives { Gives bytes.now levelled result (beside (par sig.now FILE_LIMITS depth) at
+        (located left.value, levels) (words_of bytes.now tokens.now)) }
     ensures within { IfOk result (λ o. IfSome o (λ r. (1 ≤ r.0.levels)
         × (r.0.levels ≤ depth + 1))) }
 {
@@ -377,7 +384,7 @@ fn read_beside<'a>(
                 rest,
             ),
         ) => {
-            let both = boxed(alloc, Source::Par(left, right))?;
+            let both = boxed(alloc, Source::Par(at, left, right))?;
             Ok(Some((
                 Measured {
                     source: both,
@@ -427,7 +434,16 @@ pub fn read_par<'a>(
                     rest,
                 )))
             } else if levels < depth {
-                read_beside(alloc, sig, bytes, depth - 1, left, levels, beyond(1, rest))
+                read_beside(
+                    alloc,
+                    sig,
+                    bytes,
+                    depth - 1,
+                    rest.len(),
+                    left,
+                    levels,
+                    beyond(1, rest),
+                )
             } else {
                 Ok(None)
             }

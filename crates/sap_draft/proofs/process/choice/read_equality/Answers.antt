@@ -8,15 +8,14 @@ use Rattle.sap_text.specs.declared.token.Token.{Token}
 use Rattle.sap_grammar.specs.Reading.{Gives, Read, after, past}
 use Rattle.sap_grammar.specs.TermReading.{short_term}
 use Rattle.sap_grammar.specs.Words.{Word, starts, words_of}
-use Rattle.sap_macro.specs.Written.{Written, test}
-use Rattle.sap_draft.specs.code.ProcessReading.{equality, up_to}
+use Rattle.sap_draft.specs.code.ProcessReading.{Choosing, by_test, equality, up_to}
 use Rattle.sap_draft.specs.code.ProcessView.{chosen}
 use Rattle.sap_draft.specs.declared.limits.TheConstants.{FILE_LIMITS}
 use Rattle.sap_grammar.proofs.ReadingLaws.Tokens.{words-drop}
 use Rattle.sap_draft.proofs.process.choice.read_equality.Goals as goal
 
 -- behind the mark and a term, up to `then`
-up_to_then : (g : Sig) (t u : Tree) (ws zs : List Word) (made : Written → Written → Written) → starts (codes "=") ws ≡ true → short_term g FILE_LIMITS (drop 1 ws) ≡ Some (u, zs) → made ≡ test t u → equality g FILE_LIMITS t ws ≡ up_to (codes "then") made zs
+up_to_then : (g : Sig) (t u : Tree) (ws zs : List Word) (made : Choosing) → starts (codes "=") ws ≡ true → short_term g FILE_LIMITS (drop 1 ws) ≡ Some (u, zs) → made ≡ by_test t u → equality g FILE_LIMITS t ws ≡ up_to (codes "then") made zs
 unfolding past after
 up_to_then g t u ws zs made s h e = rw (s, h, e) refl
 
