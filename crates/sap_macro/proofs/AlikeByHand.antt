@@ -1,6 +1,6 @@
 -- Small configurations with alike threads, and with a ground store; and why the store has to be ground.
-use Rattle.std.proofs.Common.{◌≡◌, ℕ, zero, suc, List, [], ◌∷◌, Option, Some, None, slice_get, slice_set, refl, sym, ap, subst, ◌∙◌, ⊎_elim}
-use Rattle.std.proofs.lemmas.Bool.{cases_Bool}
+use Rattle.std.proofs.Common.{◌≡◌, ◌<◌, ℕ, zero, suc, List, [], ◌∷◌, Option, Some, None, slice_get, slice_set, refl, sym, ap, subst, ◌∙◌, ⊎_elim, arith}
+use Rattle.std.proofs.lemmas.Bool.{cases_Bool, true≢false}
 use Rattle.std.proofs.lemmas.List.Elements.{Contains-append_cases}
 use Rattle.std.specs.Prelude.{codes, Contains, if◌then◌else◌}
 use Rattle.sap_rewrite.specs.Laws.{FormIsOne}
@@ -22,9 +22,9 @@ use Rattle.sap_process.specs.Action.{Action, new, out, send, input, receive, eve
 use Rattle.sap_process.specs.Configuration.{Config}
 use Rattle.sap_process.specs.Proc.{Proc, nil, parallel, replicated, act, test, lookup}
 use Rattle.sap_process.specs.ProcessSteps.{ProcessStep, ProcessRun, with_term, ends, splits, copies, makes_name, outputs, outputs_on, inputs, inputs_on, meets, agrees, differs, shows, inserts, deletes, finds, misses, locks, unlocks, embeds, adversary_makes, knows, starts, further}
-use Rattle.sap_process.specs.StepExamples.{alone, only, showing, shown_fact}
-use Rattle.sap_macro.specs.AlikeConfigurations.{both_ended, both_run, AlikeThreads, no_thread, one_thread, HasGroundStore}
-use Rattle.sap_macro.specs.AlikeExamples.{gives_new_x, gives_a, alike_lists, other_lists, AreAllAlike, AreNoneAlike, storing, looking}
+use Rattle.sap_process.specs.StepExamples.{alone, only, left_fact, right_fact, showing, shown_fact}
+use Rattle.sap_macro.specs.AlikeConfigurations.{both_ended, both_run, AlikeThreads, no_thread, one_thread, HasGroundStore, AreAlikeConfigs}
+use Rattle.sap_macro.specs.AlikeExamples.{gives_new_x, gives_new_y, gives_a, alike_lists, other_lists, AreAllAlike, AreNoneAlike, AreNoneAlikeTo, busy, other_parts, storing, looking}
 use Rattle.sap_macro.specs.NameExamples.{x, fresh_x, fresh_y, a, both, new_x, new_y, gives}
 use Rattle.sap_macro.specs.UpToNames.{named, here, above, both_variable, both_public, both_none, both_more, both_new, both_out, both_event, AreSameUpToNames, both_nil, both_act, both_lookup}
 use Rattle.sap_macro.proofs.WrittenByHand.{other_name}
@@ -92,6 +92,40 @@ any_key k v e = subst IsGround (only_is x a k v e) tt
 
 pub no_ground : ¬ HasGroundStore (storing (both a x) nil)
 no_ground h = (h a (both a x) refl).1.0
+
+-- ---- configurations
+
+other_number : (j k : ℕ) → j < k → ¬ (j ∷ [] ≡ k ∷ [])
+other_number j k h e = let f : j ≡ k = cc in omega (arith, f)
+
+other_fact : ¬ (Some (left_fact a) ∷ [] ≡ Some (right_fact a) ∷ [])
+other_fact e =
+    let h : left_fact a ≡ right_fact a = cc in
+    other_name (codes "L") (codes "M") refl refl (ap (λ (f : Fact). f.name) h)
+
+busy_ground : HasGroundStore (busy (gives_new_x ∷ []))
+busy_ground k v e = subst IsGround (only_is a (fresh 4) k v e) tt
+
+pub all_parts : AreAlikeConfigs (busy (gives_new_x ∷ [])) (busy (gives_new_y ∷ []))
+all_parts = record { threads = one_thread (both_run x_then_y) no_thread; else_one = refl; ground = busy_ground }
+
+pub no_other_part : AreNoneAlikeTo (busy (gives_new_x ∷ [])) other_parts
+no_other_part = (
+  (λ h. other_number 4 5 (omega arith) (ap (λ (c : Config). c.made) h.else_one)),
+  (
+    (λ h. other_number 3 5 (omega arith) (ap (λ (c : Config). c.own) h.else_one)),
+    (
+      (λ h. let e : Some (fresh 4) ≡ None = ap (λ (c : Config). c.store a) h.else_one in cc),
+      (
+        (λ h. other_fact (ap (λ (c : Config). c.facts) h.else_one)),
+        ((λ h. let e : a ∷ [] ≡ [] = ap (λ (c : Config). c.frame) h.else_one in cc), ((λ h. true≢false (ap (λ (c : Config). c.held a) h.else_one)), tt)),
+      ),
+    ),
+  ),
+)
+
+pub no_ground_parts : ¬ AreAlikeConfigs (storing (both a x) nil) (storing (both a x) nil)
+no_ground_parts h = no_ground h.ground
 
 -- ---- lookup 'a' as x in new ~y; event A(x), and the same with ~z, where the store has ~y at 'a'
 

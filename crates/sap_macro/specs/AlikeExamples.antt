@@ -1,12 +1,12 @@
 -- Small configurations, to try by hand which have threads that are equal up to names, and which a ground store.
 use Rattle.std.specs.Prelude.{ℕ, List, [], ◌∷◌, Option, Some, None}
-use Rattle.sap_terms.specs.Tree.{Tree}
+use Rattle.sap_terms.specs.Tree.{Tree, fresh}
 use Rattle.sap_terms.specs.declared.var.Sort.TheVariants.{Fresh}
 use Rattle.sap_process.specs.Action.{new}
 use Rattle.sap_process.specs.Configuration.{Config}
 use Rattle.sap_process.specs.Proc.{Proc, nil, act}
-use Rattle.sap_process.specs.StepExamples.{alone, only, showing}
-use Rattle.sap_macro.specs.AlikeConfigurations.{AlikeThreads}
+use Rattle.sap_process.specs.StepExamples.{alone, only, just, left_fact, right_fact, showing}
+use Rattle.sap_macro.specs.AlikeConfigurations.{AlikeThreads, AreAlikeConfigs}
 use Rattle.sap_macro.specs.NameExamples.{x, fresh_x, fresh_y, a, new_x, new_y, gives, finds_x}
 use Rattle.sap_macro.specs.UpToNames.{named}
 
@@ -47,6 +47,32 @@ AreAllAlike (e ∷ es) = AlikeThreads e.0 e.1 × AreAllAlike es
 abbrev pub AreNoneAlike : List (List (Option Proc) × List (Option Proc)) → Type 0
 AreNoneAlike [] = Unit {0}
 AreNoneAlike (e ∷ es) = ¬ AlikeThreads e.0 e.1 × AreNoneAlike es
+
+-- these threads, where a process made ~4 and the adversary ~3, the store has ~4 at 'a', one fact is left, 'a' was sent, and is held
+abbrev pub busy : List (Option Proc) → Config
+busy ps = record {
+  made = 4 ∷ [];
+  own = 3 ∷ [];
+  store = only a (fresh 4);
+  facts = Some (left_fact a) ∷ [];
+  threads = ps;
+  frame = a ∷ [];
+  held = just a;
+}
+
+-- with one thread: another name made, on either side; nothing stored; another fact left; nothing sent; and another term held
+abbrev pub other_parts : List Config
+other_parts = record (busy (gives_new_x ∷ [])) { made = 5 ∷ [] }
+    ∷ record (busy (gives_new_x ∷ [])) { own = 5 ∷ [] }
+    ∷ record (busy (gives_new_x ∷ [])) { store = λ k. None }
+    ∷ record (busy (gives_new_x ∷ [])) { facts = Some (right_fact a) ∷ [] }
+    ∷ record (busy (gives_new_x ∷ [])) { frame = [] }
+    ∷ record (busy (gives_new_x ∷ [])) { held = just (fresh 4) } ∷ []
+
+-- none of these is alike to the first
+abbrev pub AreNoneAlikeTo : Config → List Config → Type 0
+AreNoneAlikeTo c [] = Unit {0}
+AreNoneAlikeTo c (d ∷ ds) = ¬ AreAlikeConfigs c d × AreNoneAlikeTo c ds
 
 -- this thread alone, where the store has the term at 'a', and nothing elsewhere
 abbrev pub storing : Tree → Proc → Config

@@ -11,8 +11,8 @@ ghost use Rattle.sap_process.specs.Head.{Head};
 ghost use Rattle.sap_process.specs.Proc as whole;
 ghost use Rattle.sap_process.specs.ProcessSteps.{ProcessStep, ProcessRun};
 ghost use Rattle.sap_process.specs.StepExamples.{alone, only, shown_fact};
-ghost use Rattle.sap_macro.specs.AlikeConfigurations.{AlikeThreads, HasGroundStore};
-ghost use Rattle.sap_macro.specs.AlikeExamples.{alike_lists, other_lists, AreAllAlike, AreNoneAlike, storing, looking};
+ghost use Rattle.sap_macro.specs.AlikeConfigurations.{AlikeThreads, HasGroundStore, AreAlikeConfigs};
+ghost use Rattle.sap_macro.specs.AlikeExamples.{gives_new_x, gives_new_y, alike_lists, other_lists, AreAllAlike, AreNoneAlike, AreNoneAlikeTo, busy, other_parts, storing, looking};
 ghost use Rattle.sap_macro.specs.Expansion.{expansion};
 ghost use Rattle.sap_macro.specs.ExpansionExamples.{a, b, of_name, fresh_of, news, taking, makes, takes, gives, making, making_twice, making_x, comparing, pairing, giving_y, using_plain, inner, outer, all_forms, all_forms_put, twice_two, twice_z, using_wrongly, using_none, in_first, in_second};
 ghost use Rattle.sap_macro.specs.MacroCauses.{first_other_count, first_parameter_twice};
@@ -32,14 +32,19 @@ pub fn equal_up_to_names_by_hand()
 {}
 
 /// A law: small configurations with threads that are alike, and some without; a store that is ground, whatever its keys, and one that
-/// isn't. And why the store has to be ground: where it has `~y` at `'a'`, the threads `lookup 'a' as x in new ~y; event A(x)` and the
-/// same with `new ~z` are equal up to names, but the first shows the name that it makes, and the second shows no name.
+/// isn't; two configurations that are alike, some that differ in one part each, and one with a store that isn't ground, which isn't
+/// alike to itself. And why the store has to be ground: where it has `~y` at `'a'`, the threads
+/// `lookup 'a' as x in new ~y; event A(x)` and the same with `new ~z` are equal up to names, but the first shows `A` of the name that
+/// it makes, and the second `A` of no name, whatever else is shown.
 pub fn alike_configurations_by_hand()
     ensures alike { AreAllAlike alike_lists }
     ensures other { AreNoneAlike other_lists }
     ensures ground { HasGroundStore (storing (both a (fresh 3)) whole.nil) }
     ensures any_key { HasGroundStore (record (alone whole.nil) { store = only x a }) }
     ensures no_ground { ¬ HasGroundStore (storing (both a x) whole.nil) }
+    ensures all_parts { AreAlikeConfigs (busy (gives_new_x ∷ [])) (busy (gives_new_y ∷ [])) }
+    ensures no_other_part { AreNoneAlikeTo (busy (gives_new_x ∷ [])) other_parts }
+    ensures no_ground_parts { ¬ AreAlikeConfigs (storing (both a x) whole.nil) (storing (both a x) whole.nil) }
     ensures looks_alike { AlikeThreads (storing fresh_y (looking (codes "y"))).threads (storing fresh_y (looking (codes "z"))).threads }
     ensures shows_new { (g : Sig) → (d : Config) × ProcessRun g (storing fresh_y (looking (codes "y"))) d ((shown_fact (fresh 7) ∷ []) ∷ []) }
     ensures never_shows_new { (g : Sig) (d : Config) (tr : Trace) (n : ℕ) → ProcessRun g (storing fresh_y (looking (codes "z"))) d tr

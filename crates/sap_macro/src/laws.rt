@@ -28,10 +28,9 @@ ghost use Rattle.sap_macro.specs.declared.source.Source.{Source};
 
 use sap_rewrite::{equality_is_kept, normal_forms_are_unique};
 
-/// A law: equal up to names is so from both sides, and goes through a third. Where names are bound above, their pairs change sides; of
-/// three processes the pairs of the first two have those names on the right that the pairs of the last two have on the left, and the
-/// outer ones are what is left. So of whole processes it is symmetric and transitive. It isn't reflexive: a name that nothing binds is
-/// equal to nothing (`equal_up_to_names_by_hand`).
+/// A law: equal up to names is symmetric and transitive. Where names are bound above, their pairs have other sides, or go through a
+/// third: the right names of the first pairs are the left ones of the second, and the outer ones are what both come to. It isn't
+/// reflexive: a name that nothing binds is equal to nothing (`equal_up_to_names_by_hand`).
 pub fn same_up_to_names_is_symmetric_and_transitive()
     ensures other_side { (ρ ξ : List Pair) (p q : Proc) → lefts ξ ≡ rights ρ → rights ξ ≡ lefts ρ → AreAlike ρ p q → AreAlike ξ q p }
     ensures third { (ρ ξ ζ : List Pair) (p q r : Proc) → rights ρ ≡ lefts ξ → lefts ζ ≡ lefts ρ → rights ζ ≡ rights ξ
@@ -40,10 +39,10 @@ pub fn same_up_to_names_is_symmetric_and_transitive()
     ensures transitive { (p q r : Proc) → AreSameUpToNames p q → AreSameUpToNames q r → AreSameUpToNames p r }
 {}
 
-/// A law: configurations whose threads are equal up to names, one by one, and which are else one, show the same from there on, whatever
-/// is known, held and left of facts, where the store is ground: each step and each run from the one has its like from the other, and
-/// both lead to such configurations again. Alike is so from both sides. Where the store isn't ground it fails
-/// (`alike_configurations_by_hand`).
+/// A law: configurations whose threads are equal up to names, one by one, and which are else one, show the same from there on, where the
+/// store is ground; whatever was made, is stored, known and held, and is left of facts. Each step and each run from the one has its like
+/// from the other, and both lead to such configurations again. They are alike from both sides. Processes that are equal up to names
+/// begin in such configurations. Where the store isn't ground it fails (`alike_configurations_by_hand`).
 pub fn alike_configurations_show_the_same()
     ensures steps { (g : Sig) (c d e : Config) (label : List Fact) → AreAlikeConfigs c d → ProcessStep g c label e
         → (f : Config) × AreAlikeConfigs e f × ProcessStep g d label f }

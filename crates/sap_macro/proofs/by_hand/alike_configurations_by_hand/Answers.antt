@@ -1,4 +1,4 @@
-use Rattle.sap_macro.proofs.AlikeByHand.{alike, any_key, ground, looks_one, never_shows_new, no_ground, other, shows_new}
+use Rattle.sap_macro.proofs.AlikeByHand.{alike, all_parts, any_key, ground, looks_one, never_shows_new, no_ground, no_ground_parts, no_other_part, other, shows_new}
 use Rattle.sap_macro.proofs.by_hand.alike_configurations_by_hand.Goals as goal
 
 pub returns-clause-alike : goal.returns-clause-alike
@@ -15,6 +15,15 @@ returns-clause-any_key c = any_key
 
 pub returns-clause-no_ground : goal.returns-clause-no_ground
 returns-clause-no_ground c = no_ground
+
+pub returns-clause-all_parts : goal.returns-clause-all_parts
+returns-clause-all_parts c = all_parts
+
+pub returns-clause-no_other_part : goal.returns-clause-no_other_part
+returns-clause-no_other_part c = no_other_part
+
+pub returns-clause-no_ground_parts : goal.returns-clause-no_ground_parts
+returns-clause-no_ground_parts c = no_ground_parts
 
 pub returns-clause-looks_alike : goal.returns-clause-looks_alike
 returns-clause-looks_alike c = looks_one
