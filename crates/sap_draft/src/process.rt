@@ -31,8 +31,9 @@ pub fn read_process(
 ) -> Result<Option<Box<Source>>, Mem>
     ensures found { IfOk result (λ o. IfSome o (λ p. IsProcess sig.now (written p.value)
         (words_of bytes.now tokens.now))) }
-    ensures places { IfOk result (λ o. IfSome o (λ p. (n : ℕ) (r : IsPar sig.now FILE_LIMITS (written p.value) n
-        (words_of bytes.now tokens.now) []) → par_located r ≡ located p.value)) }
+    ensures places { IfOk result (λ o. IfSome o (λ p. (n : ℕ)
+        (r : IsPar sig.now FILE_LIMITS (written p.value) n (words_of bytes.now tokens.now) [])
+        → par_located r ≡ located p.value)) }
     ensures none { IfOk result (λ o. IfNone o ((g : Sig) (p : Written)
         → IsProcess g p (words_of bytes.now tokens.now) → ⊥)) }
 {

@@ -38,8 +38,9 @@ fn read_second_branch<'a>(
 ) -> Result<Option<(Measured, &'a [Token])>, Mem>
     requires deep { depth < 2 ^ 30 }
     requires within { levels ≤ depth }
-    ensures gives { Gives bytes.now levelled result (second_branch (seq sig.now FILE_LIMITS depth) at
-        (chosen choice.value) (located yes.value, levels) (words_of bytes.now tokens.now)) }
+    ensures gives { Gives bytes.now levelled result (second_branch
+        (seq sig.now FILE_LIMITS depth) at (chosen choice.value) (located yes.value, levels)
+        (words_of bytes.now tokens.now)) }
     ensures within { IfOk result (λ o. IfSome o (λ r. (1 ≤ r.0.levels)
         × (r.0.levels ≤ depth + 1))) }
 {
