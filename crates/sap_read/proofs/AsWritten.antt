@@ -1,5 +1,5 @@
 -- Files show what they show as they are written.
-use Rattle.std.proofs.Common.{◌≡◌, ◌↔◌, ℕ, List, [], Some, None, Ok, Err, refl, sym, ap, map, subst, ◌∙◌}
+use Rattle.std.proofs.Common.{◌≡◌, ◌↔◌, ℕ, List, [], Some, None, Ok, refl, sym, ap, map, subst, ◌∙◌}
 use Rattle.std.specs.Prelude.{Result}
 use Rattle.sap_terms.specs.Signature.{Sig, pairs_alone}
 use Rattle.sap_terms.specs.Trace.{Trace}
@@ -40,7 +40,7 @@ use Rattle.sap_read.proofs.OneFile.{same_items}
 use Rattle.sap_read.proofs.Unrefused.{no_cause}
 
 -- what is accepted: its items, and its process before it has sorts and labels
-record Accepted (z : List ℕ) (f : FileContent) : Type 0 where
+pub record Accepted (z : List ℕ) (f : FileContent) : Type 0 where
   pub tokens : List Token
   pub name : List ℕ
   pub cut : List (List Placed)
@@ -57,7 +57,7 @@ record Accepted (z : List ℕ) (f : FileContent) : Type 0 where
 same_file : (a b : FileContent) → ◌≡◌ {A = Result FileContent ReadFault} (Ok a) (Ok b) → a ≡ b
 same_file a b e = cc
 
-of_accepted : (z : List ℕ) (o : Result FileContent ReadFault) (f : FileContent) → o ≡ Ok f → IsRead z o → Accepted z f
+pub of_accepted : (z : List ℕ) (o : Result FileContent ReadFault) (f : FileContent) → o ≡ Ok f → IsRead z o → Accepted z f
 of_accepted z o f e (no_tokens l) = absurd (cc (e))
 of_accepted z o f e (no_header l h) = absurd (cc (e))
 of_accepted z o f e (no_item l h) = absurd (cc (e))

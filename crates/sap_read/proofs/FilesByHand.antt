@@ -23,7 +23,7 @@ use Rattle.sap_grammar.specs.Declarations.{builtins_last, spells_signing}
 use Rattle.sap_grammar.specs.Items.{items_end, items_more, no_end}
 use Rattle.sap_grammar.specs.TermGrammar.{IsShort, term_message, term_quoted}
 use Rattle.sap_grammar.specs.Words.{Word, mark, name, number as number_word, quoted as quoted_word, is_mark}
-use Rattle.sap_draft.specs.ProcessGrammar.{par_one, seq_nil, seq_action, action_out, action_unlock}
+use Rattle.sap_draft.specs.ProcessGrammar.{par_one, seq_call, seq_nil, seq_action, action_out, action_unlock}
 use Rattle.sap_macro.specs.Written as written
 use Rattle.sap_draft.specs.declared.limits.TheConstants.{FILE_LIMITS}
 use Rattle.sap_formula.specs.Faults.{HasFault, HasNoFault, IsFirstFault, rank, told}
@@ -37,11 +37,12 @@ use Rattle.sap_statements.specs.Stated.{this_one}
 use Rattle.sap_statements.specs.Statements.{formula_of, is_lemma, without_attributes, mode_missing}
 use Rattle.sap_statements.specs.declared.statement.Statement.{Statement}
 use Rattle.sap_statements.specs.declared.statement.Statement.TheVariants.{Lemma as lemma}
+use Rattle.sap_read.specs.AsWritten.{IsWrittenAs}
 use Rattle.sap_read.specs.Causes.{lock_fault}
-use Rattle.sap_read.specs.FileExamples.{empty_file, endless_file, headless_file, quoting_file, timeless_file, told_whole, unbound_file, unlocking_file, whole_file}
+use Rattle.sap_read.specs.FileExamples.{defined_file, doing_nothing, empty_file, endless_file, headless_file, quoting_file, timeless_file, told_whole, unbound_file, unlocking_file, using_p, whole_file}
 use Rattle.sap_read.specs.Files.{IsRead, IsParted, no_tokens, no_header, no_item, refused, ill, locked, unchecked, accepted}
-use Rattle.sap_read.specs.Item.{Standing, builtins, process, statement}
-use Rattle.sap_read.specs.ItemGrammar.{item_builtins, item_process, item_statement}
+use Rattle.sap_read.specs.Item.{Standing, builtins, definition, process, statement}
+use Rattle.sap_read.specs.ItemGrammar.{item_builtins, item_definition, item_process, item_statement, without_parameters}
 use Rattle.sap_read.specs.declared.fault.ReadFault.TheVariants.{Formula, Header, Ill, Lex as LexFault, NoProcess, Syntax}
 use Rattle.sap_read.proofs.CausesByHand.{is_expanded}
 
@@ -377,3 +378,59 @@ module _ (longest : Longest) where
         small = tt;
       }))) (items_end refl))))
       refl (is_expanded _ _ written.nil refl refl refl (lit≤ tt) (lit≤ tt) refl tt _) sound alone (this_one fault_is)
+
+  -- `let P = 0`, and `P`
+  abbrev defined_tokens : List Token
+  defined_tokens =
+      header_tokens
+      (token kind.Ident 15 3 ∷ token kind.Ident 19 1 ∷ token kind.Symbol 21 1 ∷ token kind.Number 23 1 ∷ token kind.Ident 25 7 ∷ token kind.Symbol 32 1 ∷ token kind.Ident 34 1
+      ∷ token kind.Ident 36 3 ∷ [])
+
+  defined_lexed : IsLexed 64 0 1 defined_file (Ok defined_tokens)
+  defined_lexed =
+      let last : List Token = token kind.Ident 36 3 ∷ [] in
+      let used : List Token = token kind.Ident 34 1 ∷ last in
+      let colon : List Token = token kind.Symbol 32 1 ∷ used in
+      let main : List Token = token kind.Ident 25 7 ∷ colon in
+      let nothing : List Token = token kind.Number 23 1 ∷ main in
+      let equals : List Token = token kind.Symbol 21 1 ∷ nothing in
+      let named : List Token = token kind.Ident 19 1 ∷ equals in
+      behind_begin (codes " let P = 0 process: P end") (Ok (token kind.Ident 15 3 ∷ named)) refl
+      (space (codes "let P = 0 process: P end") 14 (Ok (token kind.Ident 15 3 ∷ named))
+      (word (codes "let") (codes " P = 0 process: P end") 15 (Ok named) (ident refl refl) refl (lit≤ tt)
+      (space (codes "P = 0 process: P end") 18 (Ok named)
+      (word (codes "P") (codes " = 0 process: P end") 19 (Ok equals) (ident refl refl) refl (lit≤ tt)
+      (space (codes "= 0 process: P end") 20 (Ok equals)
+      (sign (codes "=") (codes " 0 process: P end") 21 (Ok nothing) refl
+      (space (codes "0 process: P end") 22 (Ok nothing)
+      (digits (codes "0") (codes " process: P end") 23 (Ok main) (number refl refl) refl (lit≤ tt)
+      (space (codes "process: P end") 24 (Ok main)
+      (word (codes "process") (codes ": P end") 25 (Ok colon) (ident refl refl) refl (lit≤ tt)
+      (sign (codes ":") (codes " P end") 32 (Ok used) refl
+      (space (codes "P end") 33 (Ok used)
+      (word (codes "P") (codes " end") 34 (Ok last) (ident refl refl) refl (lit≤ tt) (at_end 35))))))))))))))
+
+  abbrev definition_words : List Placed
+  definition_words = map there (mark (codes "let") ∷ name (codes "P") ∷ mark (codes "=") ∷ number_word (codes "0") ∷ [])
+
+  defined_parted : IsParted defined_file defined_tokens (codes "T") (definition_words ∷ process_words (name (codes "P") ∷ []) ∷ last_words ∷ [])
+  defined_parted = record {
+    tokens = defined_lexed;
+    rest = definition_words ++ (process_words (name (codes "P") ∷ []) ++ last_words);
+    header = record { theory_line = 1; name_line = 1; begin_line = 1; spelled = refl };
+    items = cut_one _ _ (process_words (name (codes "P") ∷ []) ++ last_words) (refl, (refl, (refl, tt))) refl
+        (cut_one _ _ last_words (refl, (refl, tt)) refl (cut_one _ [] [] tt tt cut_none));
+  }
+
+  pub defined_is : IsWrittenAs defined_file (doing_nothing ∷ []) using_p
+  defined_is = record {
+    tokens = defined_tokens;
+    name = codes "T";
+    cut = definition_words ∷ process_words (name (codes "P") ∷ []) ∷ last_words ∷ [];
+    items = record { item = definition (codes "P") [] written.nil; line = 1 } ∷ record { item = process using_p; line = 1 } ∷ [];
+    parted = defined_parted;
+    spelled = items_more (item_definition without_parameters (record { levels = 1; spelled = par_one seq_nil; few_levels = lit≤ tt }))
+        (items_more (item_process (record { levels = 1; spelled = par_one seq_call; few_levels = lit≤ tt })) (items_end refl));
+    definitions = refl;
+    process = refl;
+  }

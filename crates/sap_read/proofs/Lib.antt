@@ -36,3 +36,4 @@ pub mod OwnNames
 pub mod CausesByHand
 pub mod FilesByHand
 pub mod AsWritten
+pub mod WithoutParameters

@@ -298,9 +298,16 @@ other_processes =
     ∷ (with_n (giving_n ∷ about (call q_name (a ∷ [])) ∷ []), gives_new (codes "n"))
     ∷ (with_n_1 (giving_n ∷ about (call q_name (a ∷ [])) ∷ []), gives_new (codes "n_1")) ∷ []
 
+-- ! Q, and ! 0
+abbrev pub plain_main : Written
+plain_main = replicated (call q_name [])
+
+abbrev pub plain_tree : Proc
+plain_tree = whole.replicated whole.nil
+
 -- let P = 0, let Q = P, process: ! Q
 abbrev pub plain_file : List Standing
-plain_file = file (let_be p_name nil ∷ let_be q_name (call p_name []) ∷ about (replicated (call q_name [])) ∷ [])
+plain_file = file (let_be p_name nil ∷ let_be q_name (call p_name []) ∷ about plain_main ∷ [])
 
 -- a parameter; an argument in the process, and in a definition
 abbrev pub files_not_plain : List (List Standing)
@@ -308,3 +315,10 @@ files_not_plain =
     file (let_use p_name (codes "x" ∷ []) nil ∷ about nil ∷ [])
     ∷ file (let_be p_name nil ∷ about (parallel nil (call p_name (a ∷ []))) ∷ [])
     ∷ file (let_be p_name nil ∷ let_be q_name (call p_name (a ∷ [])) ∷ about nil ∷ []) ∷ []
+
+-- let P(x) = 0, process: P(x)
+abbrev pub open_main : Written
+open_main = call p_name (variable x ∷ [])
+
+abbrev pub open_file : List Standing
+open_file = file (let_use p_name (codes "x" ∷ []) nil ∷ about open_main ∷ [])

@@ -2,6 +2,8 @@
 use Rattle.std.specs.Prelude.{ℕ, codes, List, []}
 use Rattle.sap_process.specs.Proc.{nil}
 use Rattle.sap_process.specs.FlawExamples.{pairs_and_signing}
+use Rattle.sap_macro.specs.Written as written
+use Rattle.sap_macro.specs.Written.{Definition, Written, call}
 use Rattle.sap_read.specs.Files.{FileContent}
 
 -- no process, and nothing else
@@ -35,3 +37,14 @@ timeless_file = codes "theory T begin builtins: signing process: 0 lemma l: \"i 
 -- what the file with the process `0` and no lemma tells
 abbrev pub told_whole : FileContent
 told_whole = record { name = codes "T"; signature = pairs_and_signing; process = nil; restrictions = []; lemmas = [] }
+
+-- a definition without parameters, and its use
+abbrev pub defined_file : List ℕ
+defined_file = codes "theory T begin let P = 0 process: P end"
+
+-- let P = 0, and P
+abbrev pub doing_nothing : Definition
+doing_nothing = record { name = codes "P"; params = []; body = written.nil }
+
+abbrev pub using_p : Written
+using_p = call (codes "P") []

@@ -1,13 +1,19 @@
 //! Why small files are refused, and what their processes are, by hand, as contracts of functions that do nothing.
-ghost use Rattle.std.specs.Prelude.{◌≡◌, ℕ, false, List, [], Err, Ok, All, codes};
+ghost use Rattle.std.specs.Prelude.{◌≡◌, ℕ, false, List, [], ◌∷◌, Err, Ok, All, codes};
 ghost use Rattle.sap_formula.specs.declared.fault.FormulaFault.TheVariants.{UnboundVar};
 ghost use Rattle.sap_locks.specs.Annotation.{without};
+ghost use Rattle.sap_macro.specs.Expansion.{plain};
+ghost use Rattle.sap_macro.specs.Replaced.{AreWithoutParameters, nothing_stands, process_of};
+ghost use Rattle.sap_macro.specs.Written.{Definition, Written};
+ghost use Rattle.sap_macro.specs.WrittenRuns.{HasArgumentsInScope};
 ghost use Rattle.sap_process.specs.declared.flaw.Flaw.TheVariants.{Unbound};
 ghost use Rattle.sap_terms.specs.Variables.{is_known};
 ghost use Rattle.sap_text.specs.declared.fault.Lex.TheVariants.{OpenQuote};
-ghost use Rattle.sap_read.specs.CauseExamples.{AreNoProcesses, AreProcesses, AreRefused, AreUnexpanded, AreUnrefused, counting_first, file_processes, files_not_plain, near_files, other_processes, plain_file, unexpanded_first, with_clash, with_other_count, with_parameter_twice, with_repeated, with_too_deep, with_too_many, with_two, with_unknown, without_process};
+ghost use Rattle.sap_read.specs.AsWritten.{IsWrittenAs};
+ghost use Rattle.sap_read.specs.CauseExamples.{AreNoProcesses, AreProcesses, AreRefused, AreUnexpanded, AreUnrefused, counting_first, file_processes, files_not_plain, near_files, open_file, open_main, other_processes, plain_file, plain_main, plain_tree, unexpanded_first, with_clash, with_other_count, with_parameter_twice, with_repeated, with_too_deep, with_too_many, with_two, with_unknown, without_process};
 ghost use Rattle.sap_read.specs.Causes.{lock_fault};
-ghost use Rattle.sap_read.specs.FileExamples.{empty_file, endless_file, headless_file, quoting_file, timeless_file, told_whole, unbound_file, unlocking_file, whole_file};
+ghost use Rattle.sap_read.specs.FileProcess.{definitions_of};
+ghost use Rattle.sap_read.specs.FileExamples.{defined_file, doing_nothing, empty_file, endless_file, headless_file, quoting_file, timeless_file, told_whole, unbound_file, unlocking_file, using_p, whole_file};
 ghost use Rattle.sap_read.specs.Files.{IsRead};
 ghost use Rattle.sap_read.specs.HeldVariables.{HoldsFileVariables};
 ghost use Rattle.sap_read.specs.Identifiers.{identifiers_of};
@@ -16,6 +22,7 @@ ghost use Rattle.sap_read.specs.PlainFiles.{ArePlain};
 ghost use Rattle.sap_read.specs.VariableExamples.{file_identifiers, file_words, names_without, other_names, small_bodies, variable_names};
 ghost use Rattle.sap_read.specs.declared.fault.ReadFault.TheVariants.{Formula, Header, Ill, Lex as LexFault, NoProcess, Syntax};
 
+use crate::laws::files_show_as_they_are_written;
 use sap_locks::{annotations_by_hand, branches_by_hand};
 use sap_process::flaws_by_hand;
 use sap_text::longest_tokens;
@@ -75,4 +82,21 @@ pub fn files_by_hand()
     flaws_by_hand();
     annotations_by_hand();
     branches_by_hand();
+}
+
+/// A law: a small file byte by byte with the definitions and the process that it is written with, and with no others. Of a file without
+/// parameters, by its items, what is needed that it is the tree that is written, and this tree; and a file with a parameter and an
+/// argument that isn't in scope.
+pub fn written_files_by_hand()
+    ensures written { IsWrittenAs defined_file (doing_nothing ∷ []) using_p }
+    ensures nothing_else { (ds : List Definition) (p : Written) → IsWrittenAs defined_file ds p
+        → (ds ≡ doing_nothing ∷ []) × (p ≡ using_p) }
+    ensures without_parameters { AreWithoutParameters (definitions_of (bodies plain_file)) }
+    ensures in_scope { HasArgumentsInScope [] (plain (definitions_of (bodies plain_file)) plain_main) }
+    ensures tree { process_of nothing_stands (definitions_of (bodies plain_file)) plain_main ≡ plain_tree }
+    ensures with_parameter { ¬ AreWithoutParameters (definitions_of (bodies open_file)) }
+    ensures not_in_scope { ¬ HasArgumentsInScope [] (plain (definitions_of (bodies open_file)) open_main) }
+{
+    longest_tokens();
+    files_show_as_they_are_written();
 }

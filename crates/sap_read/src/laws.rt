@@ -1,5 +1,5 @@
 //! Laws of files, as contracts of functions that do nothing but call those below.
-ghost use Rattle.std.specs.Prelude.{◌≡◌, ◌↔◌, ◌⊎◌, ◌≤◌, ◌^◌, ℕ, List, None, Some, Result, Ok, Err, length};
+ghost use Rattle.std.specs.Prelude.{◌≡◌, ◌↔◌, ◌⊎◌, ◌≤◌, ◌^◌, ℕ, List, [], None, Some, Result, Ok, Err, length};
 ghost use Rattle.sap_terms.specs.declared.fact.Fact.{Fact};
 ghost use Rattle.sap_terms.specs.Tree.{Tree, level_count};
 ghost use Rattle.sap_text.specs.declared.token.Token.{Token};
@@ -10,14 +10,19 @@ ghost use Rattle.sap_grammar.specs.Words.{Word, words_of};
 ghost use Rattle.sap_grammar.specs.TermGrammar.{IsTerm};
 ghost use Rattle.sap_grammar.specs.FactGrammar.{IsFact, fact_levels};
 ghost use Rattle.sap_read.specs.code.ProcessLaws.{ProcessLaws};
+ghost use Rattle.sap_macro.specs.Expansion.{plain};
+ghost use Rattle.sap_macro.specs.Order.{UsesOnly};
 ghost use Rattle.sap_macro.specs.Replaced as replaced;
+ghost use Rattle.sap_macro.specs.Replaced.{AreWithoutParameters};
 ghost use Rattle.sap_macro.specs.UpToNames.{AreSameUpToNames};
 ghost use Rattle.sap_macro.specs.Written.{Definition, Written};
+ghost use Rattle.sap_macro.specs.WrittenRuns.{HasArgumentsInScope, IsFileTrace};
 ghost use Rattle.sap_read.specs.AsWritten.{FilesShowAsWritten, IsWrittenAs};
 ghost use Rattle.sap_read.specs.Causes.{cause_of};
 ghost use Rattle.sap_read.specs.FileProcess.{definitions_of, main_of, process_of, IsExpanded};
 ghost use Rattle.sap_process.specs.Proc.{Proc};
 ghost use Rattle.sap_process.specs.ProcessSteps.{IsProcessTrace};
+ghost use Rattle.sap_process.specs.Sorted.{with_sorts};
 ghost use Rattle.sap_draft.specs.ProcessGrammar.{IsPar};
 ghost use Rattle.sap_grammar.specs.Cut.{Placed, IsCut};
 ghost use Rattle.sap_read.specs.ItemGrammar.{AreItems};
@@ -266,4 +271,24 @@ pub fn files_show_as_they_are_written()
     unflawed_processes_are_closed();
     labels_show_nothing();
     sorting_keeps();
+}
+
+/// A law: take a file that is read, none of whose definitions has parameters. Once names are replaced no use is left in its process, so
+/// that each names in its arguments what is in scope; the process that is read is the tree that is written, each name replaced by what it
+/// stands for, with the sorts of its binders and the labels of its locks; and that shows what the file shows as it is written.
+pub fn files_without_parameters_are_as_written()
+    ensures left { (z : List ℕ) (f : FileContent) (ds : List Definition) (p : Written) → IsRead z (Ok f)
+        → IsWrittenAs z ds p → AreWithoutParameters ds → UsesOnly [] (plain ds p) }
+    ensures scope { (z : List ℕ) (f : FileContent) (ds : List Definition) (p : Written) → IsRead z (Ok f)
+        → IsWrittenAs z ds p → AreWithoutParameters ds → HasArgumentsInScope [] (plain ds p) }
+    ensures process { (z : List ℕ) (f : FileContent) (ds : List Definition) (p : Written) → IsRead z (Ok f)
+        → IsWrittenAs z ds p → AreWithoutParameters ds
+        → IsAnnotation (with_sorts [] (replaced.process_of replaced.nothing_stands ds p)) f.process }
+    ensures shows { (z : List ℕ) (f : FileContent) (ds : List Definition) (p : Written) (tr : Trace) → IsRead z (Ok f)
+        → IsWrittenAs z ds p → AreWithoutParameters ds
+        → IsFileTrace f.signature ds p tr ↔ IsProcessTrace f.signature f.process tr }
+{
+    plain_files_stay();
+    plain_uses_have_parameters();
+    files_show_as_they_are_written();
 }

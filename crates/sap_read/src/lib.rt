@@ -16,14 +16,18 @@ mod taken;
 mod terms;
 mod whole;
 
-pub use by_hand::{causes_by_hand, file_processes_by_hand, files_by_hand, identifiers_by_hand};
+pub use by_hand::{
+    causes_by_hand, file_processes_by_hand, files_by_hand, identifiers_by_hand,
+    written_files_by_hand,
+};
 pub use fault::ReadFault;
 pub use file::{File, read_file, read_file_boxed};
 pub use laws::{
     file_processes_are_one, file_unless_refused, files_are_named_apart, files_are_printable,
-    files_are_ready, files_are_runnable, files_show_as_they_are_written, grammar_is_one,
-    identifiers_hold_variables, labels_show_nothing, one_file, one_list_of_items,
-    plain_files_need_no_instances, some_file, used_definitions_are_closed,
+    files_are_ready, files_are_runnable, files_show_as_they_are_written,
+    files_without_parameters_are_as_written, grammar_is_one, identifiers_hold_variables,
+    labels_show_nothing, one_file, one_list_of_items, plain_files_need_no_instances, some_file,
+    used_definitions_are_closed,
 };
 pub use limits::MOST_NEW_NAME_BYTES;
 pub use sap_draft::{FILE_LIMITS, one_process, processes_by_hand};
