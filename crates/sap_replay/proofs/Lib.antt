@@ -19,6 +19,7 @@ pub mod FilledRead
 pub mod WrittenRules
 pub mod JudgedTexts
 pub mod Opposites
+pub mod HandOpposites
 pub mod ToldMeant
 pub mod Meant
 pub mod JsonMeant

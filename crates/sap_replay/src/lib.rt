@@ -8,6 +8,7 @@ mod json;
 mod json_laws;
 mod judged_laws;
 mod laws;
+mod opposite_laws;
 mod reading;
 mod replay;
 mod sample;
@@ -30,6 +31,7 @@ pub use laws::{
     legal_runs_are_not_refused, one_run_is_written_told_and_drawn, refused_runs_have_one_cause,
     texts_mean_what_they_say, verdicts_are_kept, written_runs_are_judged_alike,
 };
+pub use opposite_laws::opposites_by_hand;
 pub use reading::{MOST_BYTES, accepted_file};
 pub use replay::replayed;
 pub use sample::{sample_file, sample_run, sample_text};

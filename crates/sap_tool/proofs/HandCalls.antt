@@ -1,5 +1,5 @@
 -- Calls whose shelf tells nothing that it holds: what is left of the promises, and which answers there are.
-use Rattle.std.proofs.Common.{◌≡◌, ◌<◌, lit≤, ℕ, List, [], ◌∷◌, Option, None, Some, refl, ◌⊎◌, arith}
+use Rattle.std.proofs.Common.{◌≡◌, ◌<◌, lit≤, ℕ, List, [], ◌∷◌, Option, None, Some, refl, ◌⊎◌, inl, inr, arith}
 use Rattle.std.proofs.lemmas.List.Elements.{All-nil, All-cons, All-contains}
 use Rattle.std.specs.Prelude.{codes, Contains, All, IsSomeAnd}
 use Rattle.sap_grammar.specs.Cut.{Placed, placed, IsHeader}
@@ -14,11 +14,11 @@ use Rattle.sap_replay.specs.RunRefusals.{no_run}
 use Rattle.sap_replay.specs.declared.way.Way.TheVariants.{Plain}
 use Rattle.sap_run_texts.specs.RunTexts.{told_neither, IsHeaded, process_head, rule_head}
 use Rattle.sap_text.specs.Tokens.{ended}
-use Rattle.sap_tool.specs.Call.{Call, Holds}
+use Rattle.sap_tool.specs.Call.{Call, AskedFor, Holds}
 use Rattle.sap_tool.specs.Commands.{Command, compile, to_json, Input, alone, and_run, run_alone, spelled, file_of, run_of, Refuses, RefusesRun, IsUnknown}
 use Rattle.sap_tool.specs.ToldAtOnce.{IsToldAtOnce, help, version}
 use Rattle.sap_answer.specs.Answer.{gives, tells, write_fault_text, memory_text}
-use Rattle.sap_tool.specs.Answers.{refused, run_refused, Asks, IsAnswer, to_input, told_at_once, usage, unread, unread_run, FailedOnFile, FailedOnRun, WasRunGivenUp}
+use Rattle.sap_tool.specs.Answers.{refused, run_refused, Asks, Fetched, for_file, IsAnswer, to_input, told_at_once, usage, unread, unread_run, FailedOnFile, FailedOnRun, WasRunGivenUp}
 use Rattle.sap_tool.specs.Promises as promised
 use Rattle.sap_tool.specs.PromisesExamples.{asking, compile_words, version_words, json_words, unknown_words}
 use Rattle.sap_tool.proofs.AtOnce.{OnePage, one_told}
@@ -103,16 +103,31 @@ pub given_told : (c : Call) (text : List ℕ) → ((k : Command) → Asks c k �
 given_told c text never (to_input k input asks f i) = absurd (never k asks)
 given_told c _ never (told_at_once text told none) = told
 
+pub given_asked : (c : Call) (text : List ℕ) → ((k : Command) → Asks c k → ⊥) → IsAnswer c (gives text) → c.after.asked ≡ c.before.asked
+given_asked c text never (to_input k input asks f i) = absurd (never k asks)
+given_asked c _ never (told_at_once text told none) = none
+
+-- what a refusal says was fetched
+pub refused_is : (c : Call) (n : ℕ) (text : List ℕ) → (n ≡ 1) ⊎ (n ≡ 2) → IsAnswer c (tells n text) → (k : Command) × (input : Input) × Asks c k × Fetched c k input
+refused_is c _ _ e (to_input k input asks f (refused why r)) = (k, input, asks, f)
+refused_is c _ _ e (to_input k input asks f (run_refused why r)) = (k, input, asks, f)
+refused_is c _ _ (inl e) (usage u none) = absurd (omega (arith, e))
+refused_is c _ _ (inr e) (usage u none) = absurd (omega (arith, e))
+refused_is c _ _ (inl e) (unread k asks f n) = absurd (omega (arith, e))
+refused_is c _ _ (inr e) (unread k asks f n) = absurd (omega (arith, e))
+refused_is c _ _ (inl e) (unread_run k asks next f n) = absurd (omega (arith, e))
+refused_is c _ _ (inr e) (unread_run k asks next f n) = absurd (omega (arith, e))
+
 -- where status 4 comes from
 pub data Unread (c : Call) : Type 0 where
-  of_file : (k : Command) → Asks c k → FailedOnFile c k → Unread c
+  of_file : (k : Command) → Asks c k → FailedOnFile c k → AskedFor c (for_file k) → Unread c
   of_run : (k : Command) → Asks c k → FailedOnRun c k → WasRunGivenUp c k → Unread c
 
 pub unread_is : (c : Call) (n : ℕ) (text : List ℕ) → n ≡ 4 → IsAnswer c (tells n text) → Unread c
 unread_is c _ _ e (to_input k input asks f (refused why r)) = absurd (omega (arith, e))
 unread_is c _ _ e (to_input k input asks f (run_refused why r)) = absurd (omega (arith, e))
 unread_is c _ _ e (usage u none) = absurd (omega (arith, e))
-unread_is c _ _ e (unread k asks f n) = of_file k asks f
+unread_is c _ _ e (unread k asks f n) = of_file k asks f n
 unread_is c _ _ e (unread_run k asks next f n) = of_run k asks f n
 
 -- a status is one of seven

@@ -51,6 +51,20 @@ compile_words = codes "compile" ∷ codes "f" ∷ []
 abbrev pub unknown_words : List (List ℕ)
 unknown_words = codes "x" ∷ []
 
+-- words that ask for what is said of a run of a file, and why a file is refused
+abbrev pub judge_words : List (List ℕ)
+judge_words = codes "judge" ∷ codes "f" ∷ codes "r" ∷ []
+
+abbrev pub why_words : List (List ℕ)
+why_words = codes "why" ∷ codes "f" ∷ []
+
+-- the bytes of a run of one line, and this run as JSON
+abbrev pub run_bytes : List ℕ
+run_bytes = codes "process-run\nin 0 1\n"
+
+abbrev pub run_json : List ℕ
+run_json = codes "{\"kind\":\"process-run\",\"steps\":[[\"in\",0,1]]}\n"
+
 -- the run is opened, and this many pieces are asked for
 abbrev pub opens : List Request → List Request
 opens pieces = begin (codes "r") ∷ pieces

@@ -21,7 +21,9 @@ pub use at_once_laws::{help_by_hand, one_text_at_once, samples_and_help_are_told
 pub use fill_laws::fill_by_hand;
 pub use json_laws::json_by_hand;
 pub use laws::{lemmas_as_written_by_hand, these_bytes_are_meant, unrestricted_files_are_shown};
-pub use promises_by_hand::{promises_are_broken_by_hand, promises_are_kept_by_hand};
+pub use promises_by_hand::{
+    answers_must_come_by_hand, promises_are_broken_by_hand, promises_are_kept_by_hand,
+};
 pub use sap_outside::{
     FileShelf, MemShelf, MemSink, Shelf, ShelfFault, Sink, SinkFault, StreamSink,
 };

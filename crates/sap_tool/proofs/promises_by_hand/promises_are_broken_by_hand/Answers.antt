@@ -1,22 +1,27 @@
-use Rattle.std.proofs.Common.{◌≡◌, ◌<◌, ◌≤◌, ◌+◌, ℕ, zero, suc, List, [], ◌∷◌, ◌++◌, take, length, Option, Some, refl, sym, ap, subst, ◌∙◌, inl, inr, ◌⊎◌, arith, length-append}
+use Rattle.std.proofs.Common.{◌≡◌, ◌<◌, ◌≤◌, ◌+◌, ℕ, zero, suc, List, [], ◌∷◌, ◌++◌, take, length, Option, None, Some, refl, sym, ap, subst, ◌∙◌, inl, inr, ◌⊎◌, arith, length-append}
+use Rattle.std.specs.FinMap as files
 use Rattle.std.specs.Prelude.{codes}
 use Rattle.sap_outside.specs.Pieces.{pieces}
-use Rattle.sap_outside.specs.Outside.{more}
-use Rattle.sap_outside.specs.Requests.{Request, begin, for_run}
+use Rattle.sap_outside.specs.Outside.{Files, IsFirstPart}
+use Rattle.sap_outside.specs.Requests.{Request, begin, fetch, for_run}
 use Rattle.sap_outside.specs.Stream.{Gained, CutShort}
 use Rattle.sap_pages.specs.Texts.{version_text}
 use Rattle.sap_tool.specs.Call.{Call, AskedFor}
 use Rattle.sap_replay.specs.declared.way.Way.TheVariants.{Plain}
-use Rattle.sap_tool.specs.Commands.{Command, compile, to_json, run_alone, spelled, IsUnknown}
+use Rattle.sap_replay.specs.declared.task.Task.TheVariants.{Judge}
+use Rattle.sap_tool.specs.Commands.{Command, compile, replay, to_json, Input, alone, and_run, run_alone, spelled, AcceptsFile, IsUnknown}
 use Rattle.sap_tool.specs.ToldAtOnce.{IsToldAtOnce}
-use Rattle.sap_answer.specs.Answer.{Answer, gives, tells, Part, Broken, Starved, CutLast, IsLast, complete, cut, write_fault_text, memory_text}
-use Rattle.sap_tool.specs.Answers.{IsAnswer, refused, run_refused, to_input, usage, unread, unread_run, FailedOnFile, FailedOnRun, WasRunGivenUp, WasRunRead, IsBegun, asked_nothing, asked_file, asked_run, asked_both, for_file}
+use Rattle.sap_answer.specs.Answer.{Answer, gives, tells, Part, Broken, Starved, CutLast, IsLast, complete, cut, read_fault_text, write_fault_text, memory_text}
+use Rattle.sap_tool.specs.Answers.{IsAnswer, Fetched, refused, run_refused, to_input, usage, unread, unread_run, FailedOnFile, FailedOnRun, IsRunNext, WasRunGivenUp, WasRunRead, IsBegun, asked_nothing, asked_file, asked_run, asked_both, for_file}
 use Rattle.sap_tool.specs.Promises as promised
-use Rattle.sap_tool.specs.PromisesExamples.{asking, version_words, json_words, unknown_words, got, failed, untouched}
+use Rattle.sap_tool.specs.PromisesExamples.{asking, telling, compile_words, fetches, version_words, json_words, judge_words, unknown_words, run_json, got, failed, untouched}
 use Rattle.sap_tool.proofs.Endings.{usage_is}
 use Rattle.sap_tool.proofs.AtOnce.{OnePage}
 use Rattle.sap_tool.proofs.Asked.{one_command, differ}
-use Rattle.sap_tool.proofs.HandCalls.{headerless, headless, given_told, Unread, of_file, of_run, unread_is, below_seven, version_asks, version_only, version_known, x_unknown}
+use Rattle.sap_tool.proofs.HandCalls.{headerless, headless, given_told, given_asked, refused_is, Unread, of_file, of_run, unread_is, below_seven, version_asks, version_only, version_known, x_unknown}
+use Rattle.sap_tool.proofs.HandParts.{on_out, no_two_puts, no_long_put, no_usage}
+use Rattle.sap_tool.proofs.HandRuns.{line_is_read, given_json, given_is, held_read, nothing_given, one_piece}
+use Rattle.sap_tool.proofs.Refused.{OneReading, not_refused}
 use Rattle.sap_tool.proofs.promises_by_hand.promises_are_broken_by_hand.Goals as goal
 
 -- what out gained with status 0, where the words ask for the version
@@ -44,6 +49,21 @@ no_request r made e = cc (e)
 
 pub returns-clause-asked : goal.returns-clause-asked
 returns-clause-asked c = λ p. none_asked _ _ (version_given c.one_page.ensures _ refl (p.given refl)).0
+
+-- what is given as JSON
+longer_json : run_json ++ codes "\n" ≡ run_json → ⊥
+longer_json e = let l : 45 ≡ 44 = ap (λ (z : List ℕ). length z) e in omega (arith, l)
+
+pub returns-clause-more_json : goal.returns-clause-more_json
+returns-clause-more_json c = λ held is p.
+    let g = given_json _ refl (p.given refl) in
+    let read = line_is_read c.named_steps_can_be_written.ensures.process c.printed_runs_are_read.ensures.process in
+    longer_json (g.out.0 ∙ given_is c.one_run.ensures.either read c.arrays_by_hand.ensures.text g.z g.text (held_read held g.z _ is g.read) g.written)
+
+pub returns-clause-fewer_pieces : goal.returns-clause-fewer_pieces
+returns-clause-fewer_pieces c = λ p.
+    let g = given_json _ refl (p.given refl) in
+    nothing_given c.one_run.ensures.either g.z g.text (one_piece None g.z g.read) g.written
 
 -- a status is another one
 abbrev IsNumber : ℕ → ℕ → Type 0
@@ -94,7 +114,7 @@ run_unread c is told = at (unread_is c 4 told.text refl told.cause) where
   same k asks = one_command c.words k (to_json (codes "r")) asks is
 
   at : Unread c → FailedOnRun c (to_json (codes "r")) × WasRunGivenUp c (to_json (codes "r"))
-  at (of_file k asks f) = absurd (subst (λ (m : Command). FailedOnFile c m) (same k asks) f)
+  at (of_file k asks f n) = absurd (subst (λ (m : Command). FailedOnFile c m) (same k asks) f)
   at (of_run k asks f n) = subst (λ (m : Command). FailedOnRun c m × WasRunGivenUp c m) (same k asks) (f, n)
 
 -- the name of a run that is opened first
@@ -105,6 +125,57 @@ first_name made = []
 -- the run is opened first
 other_begun : (nexts : ℕ) (made : List Request) → begin (codes "s") ∷ made ≡ for_run (codes "r") nexts → ⊥
 other_begun nexts made e = differ (codes "s") (codes "r") (ap first_name e) refl refl
+
+pub returns-clause-other_run_given : goal.returns-clause-other_run_given
+returns-clause-other_run_given c = λ p. let g = given_json _ refl (p.given refl) in other_begun (length g.read.pieces) _ g.read.asked
+
+-- which file is fetched
+abbrev fetched_name : List Request → List ℕ
+fetched_name (fetch name limit ∷ more) = name
+fetched_name made = []
+
+other_fetched : (made : List Request) → fetch (codes "g") 1048576 ∷ made ≡ fetches → ⊥
+other_fetched made e = differ (codes "g") (codes "f") (ap fetched_name e) refl refl
+
+-- the words ask for a theory
+compile_same : (k : Command) → compile_words ≡ spelled k → k ≡ compile Plain (codes "f")
+compile_same k asks = one_command compile_words k (compile Plain (codes "f")) asks refl
+
+-- what was fetched where it refuses the file
+file_asked : (c : Call) (input : Input) → Fetched c (compile Plain (codes "f")) input → AskedFor c fetches
+file_asked c (alone bytes) f = f.1
+file_asked c (and_run bytes z) f = absurd f.1
+file_asked c (run_alone z) f = absurd f
+
+file_refused : (c : Call) → c.words ≡ compile_words → promised.Told c 1 → AskedFor c fetches
+file_refused c is told =
+    let r = refused_is c 1 told.text (inl refl) told.cause in
+    let same : r.0 ≡ compile Plain (codes "f") = one_command c.words r.0 (compile Plain (codes "f")) r.2 is in
+    file_asked c r.1 (subst (λ (k : Command). Fetched c k r.1) same r.3)
+
+pub returns-clause-other_file_refused : goal.returns-clause-other_file_refused
+returns-clause-other_file_refused c = λ p. other_fetched [] (file_refused _ refl (p.refused refl))
+
+pub returns-clause-other_file_first : goal.returns-clause-other_file_first
+returns-clause-other_file_first c = λ p. let told = p.unread refl in at (unread_is _ 4 told.text refl told.cause) where
+  at : Unread (asking compile_words (fetch (codes "g") 1048576 ∷ fetches) 1 untouched (got read_fault_text 1)) → ⊥
+  at (of_file k asks f n) = other_fetched fetches (subst (λ (m : Command). AskedFor (asking compile_words (fetch (codes "g") 1048576 ∷ fetches) 1 untouched (got read_fault_text 1)) (for_file m)) (compile_same k asks) n)
+  at (of_run k asks f n) = subst (λ (m : Command). FailedOnRun (asking compile_words (fetch (codes "g") 1048576 ∷ fetches) 1 untouched (got read_fault_text 1)) m) (compile_same k asks) f
+
+-- what was asked for where it refuses the run
+run_asked : (c : Call) (input : Input) → Fetched c (to_json (codes "r")) input → (z : List ℕ) × WasRunRead c (to_json (codes "r")) z
+run_asked c (alone bytes) f = absurd f.0
+run_asked c (and_run bytes z) f = absurd f.0
+run_asked c (run_alone z) f = (z, f)
+
+run_refused_so : (c : Call) → c.words ≡ json_words → promised.Told c 2 → (z : List ℕ) × WasRunRead c (to_json (codes "r")) z
+run_refused_so c is told =
+    let r = refused_is c 2 told.text (inr refl) told.cause in
+    let same : r.0 ≡ to_json (codes "r") = one_command c.words r.0 (to_json (codes "r")) r.2 is in
+    run_asked c r.1 (subst (λ (k : Command). Fetched c k r.1) same r.3)
+
+pub returns-clause-other_run_refused : goal.returns-clause-other_run_refused
+returns-clause-other_run_refused c = λ p. let was = run_refused_so _ refl (p.refused_run refl) in other_begun (length was.1.pieces) _ was.1.asked
 
 pub returns-clause-other_first : goal.returns-clause-other_first
 returns-clause-other_first c = λ p. let was = (run_unread _ refl (p.unread refl)).1 in other_begun was.nexts _ was.asked
@@ -149,23 +220,25 @@ returns-clause-one_fault c = λ p. let u = p.unwritten refl in at u.answer u.cau
   at (gives text) is taken last part word = x_unknown.no_text text (given_told one text (λ k asks. x_unknown.no_command k asks) is)
   at (tells n text) is taken last part word = two_words taken text last (once (codes "usagewrite") 2 (tells n text) last n text refl word) part.1.0
 
--- a text of one piece has one put
-one_put : (whole : ℕ) → whole < 1 → ◌≡◌ {A = Option ℕ} (Some 2) (more (suc whole) (Some 0)) → ⊥
-one_put zero l e = cc (e)
-one_put (suc whole) l e = omega (arith, l)
-
--- the call
-abbrev two : Call
-two = asking version_words [] 0 (failed 1 (codes "sapic") 2) (got write_fault_text 1)
-
 pub returns-clause-two_puts : goal.returns-clause-two_puts
-returns-clause-two_puts c = λ p. let u = p.unwritten refl in at u.answer u.cause u.broken u.taken u.last u.part where
-  at : (answer : Answer) → IsAnswer two answer → Broken answer two.out two.err → (taken : ℕ) (last : List ℕ) → Part answer taken last two.out two.err → ⊥
-  at (gives text) is broken taken last part =
-      let same : text ≡ version_text = version_only c.one_page.ensures text (given_told two text version_asks is) in
-      let next : part.0.whole < 1 = subst (λ (t : List ℕ). part.0.whole < pieces t) same part.0.next in
-      one_put part.0.whole next part.0.gained.1
-  at (tells n text) is broken taken last part = let l : 1 ≤ 0 = broken in omega (arith, l)
+returns-clause-two_puts c = λ words made faults bytes few p.
+    on_out words made faults (failed 1 bytes 2) (λ text taken is part. no_two_puts bytes few taken text part) (p.unwritten refl)
+
+pub returns-clause-one_put : goal.returns-clause-one_put
+returns-clause-one_put c = λ words made faults bytes long p.
+    on_out words made faults (failed 1 bytes 1) (λ text taken is part. no_long_put bytes long taken text part) (p.unwritten refl)
+
+pub returns-clause-other_part : goal.returns-clause-other_part
+returns-clause-other_part c = λ p.
+    on_out version_words [] 0 (failed 1 (codes "usage") 1)
+    (λ text taken is part.
+    let same : text ≡ version_text = version_only c.one_page.ensures text (given_told _ text version_asks is) in
+    no_usage taken (part.gained.0 ∙ ap (λ (t : List ℕ). take taken t) same))
+    (p.unwritten refl)
+
+pub returns-clause-asked_unwritten : goal.returns-clause-asked_unwritten
+returns-clause-asked_unwritten c = λ p.
+    on_out version_words (begin (codes "r") ∷ []) 0 (failed 1 (codes "sapic") 1) (λ text taken is part. none_asked _ _ (given_asked _ text version_asks is)) (p.unwritten refl)
 
 -- the call
 abbrev other : Call
@@ -193,6 +266,49 @@ returns-clause-other_run c = λ p. at (p.wanting refl) where
   at : promised.Wanting other → ⊥
   at (promised.before_all last b none word l) = begun b
   at (promised.while_put a taken last is h part l) = starved_none a h
+
+-- the call
+abbrev behind : Files → Call
+behind held = telling held judge_words (fetches ++ begin (codes "r") ∷ []) untouched (got memory_text 1)
+
+module _ (one : OneReading) (held : Files) (is : files.get held (codes "f") ≡ Some []) where
+  same_judged : (k : Command) → judge_words ≡ spelled k → k ≡ replay Judge (codes "f") (codes "r")
+  same_judged k asks = one_command judge_words k (replay Judge (codes "f") (codes "r")) asks refl
+
+  -- it isn't the run's turn, since the file is refused
+  not_next : IsRunNext (behind held) (replay Judge (codes "f") (codes "r")) → ⊥
+  not_next next =
+      let none : next.0 ≡ [] = subst (λ (o : Option (List ℕ)). IsFirstPart o 1048576 next.0) is next.1 in
+      let accepted : AcceptsFile [] = subst AcceptsFile none next.2 in
+      not_refused one [] (codes "no theory header") accepted.0 headerless accepted.1
+
+  never_begun : IsBegun (behind held) → ⊥
+  never_begun (asked_nothing none) = none_asked _ _ none
+  never_begun (asked_file k asks f) =
+      let made : fetches ++ begin (codes "r") ∷ [] ≡ fetches = subst (λ (m : Command). AskedFor (behind held) (for_file m)) (same_judged k asks) f in
+      let count : 2 ≡ 1 = ap (λ (rs : List Request). length rs) made in
+      omega (arith, count)
+  never_begun (asked_run k asks next given_up) = not_next (subst (λ (m : Command). IsRunNext (behind held) m) (same_judged k asks) next)
+  never_begun (asked_both k z asks next read) = not_next (subst (λ (m : Command). IsRunNext (behind held) m) (same_judged k asks) next)
+
+  never_wanting : promised.Wanting (behind held) → ⊥
+  never_wanting (promised.before_all last b none word l) = never_begun b
+  never_wanting (promised.while_put (gives text) taken last is h part l) = let l : 1 ≤ 0 = h in omega (arith, l)
+  never_wanting (promised.while_put (tells n text) taken last is h part l) = let l : 1 ≤ 0 = h in omega (arith, l)
+
+pub returns-clause-behind_refused : goal.returns-clause-behind_refused
+returns-clause-behind_refused c = λ held is p. never_wanting c.one_file.ensures held is (p.wanting refl)
+
+-- the call
+abbrev unstarved : Call
+unstarved = asking version_words [] 0 (got (codes "sapic") 1) (got memory_text 1)
+
+pub returns-clause-not_starved : goal.returns-clause-not_starved
+returns-clause-not_starved c = λ p. at (p.wanting refl) where
+  at : promised.Wanting unstarved → ⊥
+  at (promised.before_all last b none word l) = some_out none.0
+  at (promised.while_put (gives text) taken last is h part l) = let l : 1 ≤ 0 = h in omega (arith, l)
+  at (promised.while_put (tells n text) taken last is h part l) = let l : 1 ≤ 0 = h in omega (arith, l)
 
 pub returns-clause-no_status : goal.returns-clause-no_status
 returns-clause-no_status c = λ p. let l = below_seven 7 p.statuses in omega (arith, l)
