@@ -8,7 +8,8 @@ use Rattle.sap_gen.specs.Settled.{IsSettled}
 use Rattle.sap_gen.specs.Short.{AreShort, no_rules, drops, keeps}
 use Rattle.sap_gen.specs.Silent.{IsSilentRule}
 use Rattle.sap_gen.specs.code.Shorter.{IsAddedRule}
-use Rattle.sap_gen.specs.code.Takers.{NamesTell, is_silent_name}
+use Rattle.sap_silent.specs.SilentNames.{is_silent_name}
+use Rattle.sap_gen.specs.code.Takers.{NamesTell}
 use Rattle.sap_gen.specs.code.Walks.{CanWalk, Takers}
 
 module _ (p : Proc) where

@@ -27,7 +27,8 @@ use Rattle.sap_translate.specs.relation.Totals.{total}
 use Rattle.sap_translate.proofs.Shared.Facts.{names_apart}
 use Rattle.sap_gen.specs.Moves.{AreAsTaken, IsAsTaken, Move}
 use Rattle.sap_gen.specs.Silent.{silent_rule, IsSilentRule}
-use Rattle.sap_gen.specs.code.Takers.{AreTakers, NamesTell, taken_first, is_silent_name, taken_name}
+use Rattle.sap_silent.specs.SilentNames.{is_silent_name}
+use Rattle.sap_gen.specs.code.Takers.{AreTakers, NamesTell, taken_first, taken_name}
 use Rattle.sap_gen.specs.code.Walks.{IsTakenBy, IsToldRight, Takers, TellRight, cost, cost_at, name_bytes}
 use Rattle.sap_gen.proofs.Places.Finding.{OwnMove, moves_of, own_found}
 use Rattle.sap_gen.proofs.Places.Settling.{silent_left}

@@ -7,8 +7,9 @@ ghost use Rattle.sap_gen.specs.code.Takers.{NamesTell};
 ghost use Rattle.sap_gen.specs.code.Walks.{CanWalk};
 
 use crate::settling::settled_facts;
-use crate::takers::{is_silent, takers_of};
+use crate::takers::takers_of;
 use sap_rule::{Rule, RuleList, Theory};
+use sap_silent::{is_silent, replace_rules};
 use sap_terms::{Copied, Mem, NameMap};
 use std::alloc::Global;
 
@@ -61,16 +62,11 @@ fn short_rule(alloc: Global, rules: &RuleList, takers: &NameMap<u64>, r: &Rule) 
 }
 
 /// The theory with short rules in place of its rules.
-pub(crate) fn with_short_rules(alloc: Global, t: Theory) -> Result<Theory, Mem>
+pub(crate) fn with_short_rules(alloc: Global, mut t: Theory) -> Result<Theory, Mem>
     requires { (p : Proc) × NamesTell p t.rules }
     ensures { IfOk result (λ s. HasShortRules t s) }
 {
     let rules = short_rules(alloc, &t.rules)?;
-    Ok(Theory {
-        name: t.name,
-        signature: t.signature,
-        rules,
-        restrictions: t.restrictions,
-        lemmas: t.lemmas,
-    })
+    drop(replace_rules(&mut t, rules));
+    Ok(t)
 }

@@ -1,21 +1,11 @@
 // The silent rules, found by the names of the facts that they take.
-ghost use Rattle.std.specs.Prelude.{◌≡◌, IfOk, OnOk, length};
-ghost use Rattle.sap_gen.specs.code.Takers.{AreTakers, Notes, is_silent_name};
+ghost use Rattle.std.specs.Prelude.{IfOk, OnOk, length};
+ghost use Rattle.sap_gen.specs.code.Takers.{AreTakers, Notes};
 
 use sap_rule::{Rule, RuleList};
-use sap_terms::{Copied, Mem, Name, NameMap};
+use sap_silent::is_silent;
+use sap_terms::{Copied, Mem, NameMap};
 use std::alloc::Global;
-
-// Whether the name is that of a silent rule.
-pub(crate) fn is_silent(name: &Name) -> bool
-    ensures { result ≡ is_silent_name name.now }
-{
-    let name = name.as_bytes();
-    name.starts_with(b"Nil_")
-        || name.starts_with(b"Par_")
-        || name.starts_with(b"Out_")
-        || name.starts_with(b"RepStart_")
-}
 
 // Notes the rule at this index by the name of what it takes, if it is silent.
 fn note(alloc: Global, r: &Rule, k: u64, takers: &mut NameMap<u64>) -> Result<(), Mem>

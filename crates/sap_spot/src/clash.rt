@@ -2,7 +2,7 @@
 use crate::found::Found;
 use crate::heads::head_of;
 use crate::preorder::{Visit, next, start};
-use crate::spot::{Form, Spot, form_at};
+use crate::spot::{Head, Spot, head_at};
 use crate::words::{Words, terms_behind};
 use sap_terms::{MOST_PROCESS_PLACES, Mem, Name, NameMap};
 
@@ -73,8 +73,8 @@ impl Met {
 
 // The first such fact of the head of this place.
 fn clash_at(words: &Words, met: &mut Met, spot: Spot) -> Result<Option<Found>, Mem> {
-    match form_at(words, spot) {
-        Form::Action => match met.meet_head(words, spot.at)? {
+    match head_at(words, spot) {
+        Head::Action => match met.meet_head(words, spot.at)? {
             Some(word) => Ok(Some(spot.found(word))),
             None => Ok(None),
         },

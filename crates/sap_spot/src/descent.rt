@@ -4,7 +4,7 @@ use crate::flaws::flawed_word;
 use crate::found::Found;
 use crate::layout::Definition;
 use crate::scope::Scope;
-use crate::spot::{Spot, below, called, form_at, head_word, process_at, settled};
+use crate::spot::{Spot, below, called, head_at, head_word, process_at, settled};
 use crate::words::Words;
 use sap_process::Flaw;
 use sap_terms::{Mem, Name, Path};
@@ -33,7 +33,7 @@ fn descended(
 ) -> Result<Option<Spot>, Mem> {
     let mut spot = entered(words, scope, from)?;
     for digit in path.as_slice() {
-        scope.enter(words, form_at(words, spot), spot, *digit)?;
+        scope.enter(words, head_at(words, spot), spot, *digit)?;
         let (first, second) = below(words, spot);
         match if *digit == 1 { first } else { second } {
             Some(next) => spot = entered(words, scope, next)?,

@@ -1,7 +1,7 @@
 //! Which variables the places above a place bind.
 use crate::found::Found;
 use crate::heads::{Part, binder_at, head_of, one, used_and_patterns, variable_at};
-use crate::spot::{Form, Spot};
+use crate::spot::{Head, Spot};
 use crate::words::Words;
 use sap_terms::{MOST_SCOPE_NAMES, Mem, Name, NameMap, Sort, Var};
 use std::alloc::Global;
@@ -112,17 +112,17 @@ impl Scope {
         }
     }
 
-    /// Goes on from a place of this form to the child of this digit: binds what the place binds for it.
+    /// Goes on from a place with this head to the child of this digit: binds what the place binds for it.
     pub(crate) fn enter(
         &mut self,
         words: &Words,
-        form: Form,
+        head: Head,
         spot: Spot,
         digit: u8,
     ) -> Result<(), Mem> {
-        match (form, binder_at(words, spot.at)) {
-            (Form::Action, _) => self.enter_action(words, spot),
-            (Form::Lookup, Some(name)) if digit == 1 => {
+        match (head, binder_at(words, spot.at)) {
+            (Head::Action, _) => self.enter_action(words, spot),
+            (Head::Lookup, Some(name)) if digit == 1 => {
                 self.bind_part(words, one(name), Some(Sort::Msg), spot)
             }
             _ => Ok(()),

@@ -23,7 +23,7 @@ pub(crate) struct Spot {
 
 /// What stands at the head of a process. A parallel has the number of its sign.
 #[derive(Clone, Copy)]
-pub(crate) enum Form {
+pub(crate) enum Head {
     Nil,
     Parallel(usize),
     Replicated,
@@ -146,20 +146,20 @@ pub(crate) fn process_at(words: &Words, at: usize) -> Result<Spot, Mem> {
 }
 
 /// What stands at a place whose head is written here.
-pub(crate) fn form_at(words: &Words, spot: Spot) -> Form {
+pub(crate) fn head_at(words: &Words, spot: Spot) -> Head {
     if let Some(bar) = bar_of(words, spot) {
-        return Form::Parallel(bar);
+        return Head::Parallel(bar);
     }
     let here = beyond(spot.at, words.tokens);
     if spot.extent == Extent::Missing || starts_zero(words.bytes, here) {
-        return Form::Nil;
+        return Head::Nil;
     }
     match words.text(spot.at) {
-        b"!" => Form::Replicated,
-        b"if" => Form::If,
-        b"lookup" => Form::Lookup,
-        _ if words.is_applied(spot.at) || words.name(spot.at).is_none() => Form::Action,
-        _ => Form::Nil,
+        b"!" => Head::Replicated,
+        b"if" => Head::If,
+        b"lookup" => Head::Lookup,
+        _ if words.is_applied(spot.at) || words.name(spot.at).is_none() => Head::Action,
+        _ => Head::Nil,
     }
 }
 
@@ -175,16 +175,16 @@ pub(crate) fn head_word(words: &Words, spot: Spot) -> Found {
 pub(crate) fn below(words: &Words, spot: Spot) -> Below {
     let end = words.layout.end(spot.at);
     let other = spot.behind(words.layout.partner(spot.at));
-    match form_at(words, spot) {
-        Form::Nil => (None, None),
-        Form::Parallel(bar) => {
+    match head_at(words, spot) {
+        Head::Nil => (None, None),
+        Head::Parallel(bar) => {
             let second = spot.with(bar.saturating_add(1), Extent::Whole);
             (Some(spot.with(spot.at, Extent::Part)), Some(second))
         }
-        Form::Replicated => (spot.behind(Some(spot.at)), None),
-        Form::Action if words.is(end, ";") => (spot.behind(Some(end)), None),
-        Form::Action => (spot.behind(None), None),
-        Form::If => (spot.behind(Some(end)), other),
-        Form::Lookup => (spot.behind(Some(end.saturating_add(2))), other),
+        Head::Replicated => (spot.behind(Some(spot.at)), None),
+        Head::Action if words.is(end, ";") => (spot.behind(Some(end)), None),
+        Head::Action => (spot.behind(None), None),
+        Head::If => (spot.behind(Some(end)), other),
+        Head::Lookup => (spot.behind(Some(end.saturating_add(2))), other),
     }
 }

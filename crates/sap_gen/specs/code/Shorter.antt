@@ -5,7 +5,8 @@ use Rattle.sap_rule.specs.declared.rule.Rule.{Rule}
 use Rattle.sap_rule.specs.declared.theory.Theory.{Theory}
 use Rattle.sap_process.specs.Proc.{Proc}
 use Rattle.sap_gen.specs.Short.{AreShort}
-use Rattle.sap_gen.specs.code.Takers.{NamesTell, is_silent_name}
+use Rattle.sap_silent.specs.SilentNames.{is_silent_name}
+use Rattle.sap_gen.specs.code.Takers.{NamesTell}
 use Rattle.sap_gen.specs.code.Walks.{IsSettlingOf, Takers}
 
 -- the rule with its right side settled

@@ -1,18 +1,12 @@
 -- Which silent rules take which facts, as the code reads it off names.
-use Rattle.std.specs.Prelude.{◌≡◌, ◌<◌, ◌||◌, ℕ, Bool, true, false, length, List, [], ◌∷◌, Option, Some, None, MatchOption, if◌then◌else◌, nat_eq, codes, slice_get}
-use Rattle.std.specs.List.{starts_with}
+use Rattle.std.specs.Prelude.{◌≡◌, ◌<◌, ℕ, true, false, length, List, [], ◌∷◌, Option, Some, None, MatchOption, if◌then◌else◌, slice_get}
 use Rattle.sap_terms.specs.NameMap.{Puts, value_at}
 use Rattle.sap_terms.specs.declared.fact.Fact.{Fact}
 use Rattle.sap_rule.specs.declared.rule.Rule.{Rule}
 use Rattle.sap_process.specs.Proc.{Proc}
+use Rattle.sap_silent.specs.SilentNames.{is_silent_name}
 use Rattle.sap_gen.specs.Silent.{IsSilentRule}
 use Rattle.sap_gen.specs.code.Walks.{Takers, TellRight}
-
--- the name is that of a silent rule
-abbrev pub is_silent_name : List ℕ → Bool
-is_silent_name n =
-    starts_with nat_eq n (codes "Nil_") || (starts_with nat_eq n (codes "Par_")
-    || (starts_with nat_eq n (codes "Out_") || starts_with nat_eq n (codes "RepStart_")))
 
 -- the first fact's name
 abbrev pub taken_first : List Fact → Option (List ℕ)
