@@ -122,13 +122,15 @@ fn show_searched(
 
 /// A signature, entries, and goals, with bars between them: behind `derive`, the lines by which the one goal is derived, and its
 /// number; behind `search`, what one search finds of each goal in turn; `none` where there are no such lines. Behind `deduce`, whether each
-/// goal can be deduced from the entries and the goals before it, which are entered in turn.
+/// goal can be deduced from the entries and the goals before it, which are entered in turn; behind `read`, which `bench/fill.sh` asks, how many
+/// goals there are.
 pub fn derivations_row(page: &mut Page, desk: &mut Desk, row: &str) {
     desk.begin(page, part(row, 1), part(row, 2));
     let goals = list::<Term>(page, &desk.signature, '|', part(row, 3));
     let entries = desk.terms.as_slice();
     match (part(row, 0), goals.as_slice()) {
         ("derive", [goal]) => show_derived(page, &desk.signature, entries, goal),
+        ("read", goals) => page.numbered("", goals.len() as u64),
         (kind, goals) => {
             if show_searched(page, &desk.signature, entries, goals, kind).is_err() {
                 page.fail();
