@@ -4,10 +4,10 @@ use crate::desk::Desk;
 use crate::notation::{between, enclosed, part};
 use crate::page::Page;
 
-/// The words of the two commands.
+/// The words of `to-json`.
 pub const TO_JSON: &str = "to-json b.run";
 
-/// From JSON.
+/// The words of `from-json`.
 pub const FROM_JSON: &str = "from-json b.run";
 
 // What stands before the arrays of steps.

@@ -200,11 +200,11 @@ pub fn tokens_of(alloc: Global, bytes: &[u8]) -> Vec<Token> {
     }
 }
 
-// The variables ~n0 to ~n9 stand for the fresh names 0 to 9.
+// The fresh names 0 to 9, for which these variables stand.
 const FRESH_NAMES: &str =
     "rule-run\nrule R with ~n0=~0 ~n1=~1 ~n2=~2 ~n3=~3 ~n4=~4 ~n5=~5 ~n6=~6 ~n7=~7 ~n8=~8 ~n9=~9\n";
 
-// What variables of the text stand for: none of it where no name is fresh.
+// What the variables ~n0 to ~n9 of the text stand for: nothing where it has none.
 fn fresh_names(alloc: Global, text: &str) -> Option<Bindings> {
     if !text.contains("~n") {
         return Some(Bindings::new(alloc));
