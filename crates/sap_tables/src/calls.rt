@@ -2,10 +2,9 @@
 ghost use Rattle.std.specs.Prelude.{◌<◌};
 
 use crate::desk::Desk;
-use crate::json::example_row;
+use crate::json::{example_row, show_inside};
 use crate::notation::{between, enclosed, file_bytes, number, part, parted};
 use crate::page::Page;
-use crate::show::Show;
 use crate::theories::show_read;
 use sap_outside::{Asked, Rest};
 use sap_tool::{MemShelf, MemSink, sapic};
@@ -148,12 +147,12 @@ fn show_out(page: &mut Page, kind: &str, out: &MemSink) {
     }
 }
 
-// What the kind asks for: as `counts` how often the shelf is asked and out and err are written to, the status and the texts; as
+// What the kind asks for: as `calls` how often the shelf is asked and out and err are written to, the status and the texts; as
 // `theory` the status and the texts; else what out took, the cause that refuses the file, or the status and the texts.
 fn show_call(page: &mut Page, kind: &str, status: u8, asked: u64, out: &MemSink, err: &MemSink) {
     let cause = between(err.bytes.as_slice(), "file refused: ", "\n");
     match (kind, cause) {
-        ("counts", _) => {
+        ("calls", _) => {
             page.numbered("", asked);
             page.numbered(" ", out.calls);
             page.numbered(" ", err.calls);
@@ -167,52 +166,10 @@ fn show_call(page: &mut Page, kind: &str, status: u8, asked: u64, out: &MemSink,
     }
 }
 
-/// Calls the program with these words over the shelf and over sinks with these failures, and shows of it what the kind asks for.
-fn call(page: &mut Page, kind: &str, words: &str, shelf: &mut MemShelf, out: &str, err: &str) {
-    let words = words_of(page, words);
-    let mut out = sink(page, out);
-    let mut err = sink(page, err);
-    let status = sapic(page.alloc, &words, shelf, &mut out, &mut err);
-    show_call(page, kind, status, shelf.calls, &out, &err);
-}
-
-/// The same over a shelf that doesn't fail, of a file and a run of these bytes.
-pub fn call_on(page: &mut Page, kind: &str, words: &str, file: &[u8], run: &[u8]) {
-    let mut shelf = shelf_of(page, file, run, 0, 4096);
-    call(page, kind, words, &mut shelf, "", "");
-}
-
-/// The words; the bytes of a.spthy and of b.run; the number of the call at which the shelf fails, or 0, and behind it how many faults it
-/// had before, if any; how many bytes of a run it gives at once; the failures of out and those of err; and how often the shelf is asked and
-/// out and err are written to, the status, and what out and err took.
-pub fn calls_row(page: &mut Page, row: &str) {
-    let file = enclosed(page.alloc, "", part(row, 1), "");
-    let run = enclosed(page.alloc, "", part(row, 2), "");
-    let (failing, faults) = parted(part(row, 3));
-    let failing = number(page, failing);
-    let piece = number(page, part(row, 4));
-    if piece == 0 {
-        page.fail();
-        return;
-    }
-    let mut shelf = shelf_of(page, file.as_bytes(), run.as_bytes(), failing, piece);
-    if !faults.is_empty() {
-        shelf.count = number(page, faults);
-    }
-    call(
-        page,
-        "counts",
-        part(row, 0),
-        &mut shelf,
-        part(row, 5),
-        part(row, 6),
-    );
-}
-
-// With a semicolon behind it.
-impl Show for Asked {
-    fn show_on(&self, page: &mut Page) {
-        match self {
+// Each with a semicolon behind it.
+fn show_requests(page: &mut Page, requests: &[Asked]) {
+    for asked in requests {
+        match asked {
             Asked::Fetch { name, limit } => {
                 page.word("fetch ");
                 page.word(name.as_str());
@@ -228,26 +185,50 @@ impl Show for Asked {
     }
 }
 
-/// The words; the bytes of a.spthy and of b.run; how many bytes of a run the shelf gives at once; and what it was asked for.
-pub fn requests_row(page: &mut Page, row: &str) {
+/// Calls the program with these words over the shelf and over sinks with these failures, and shows of it what the kind asks for: as
+/// `requests` what the shelf was asked for.
+fn call(page: &mut Page, kind: &str, words: &str, shelf: &mut MemShelf, out: &str, err: &str) {
+    let words = words_of(page, words);
+    let mut out = sink(page, out);
+    let mut err = sink(page, err);
+    let status = sapic(page.alloc, &words, shelf, &mut out, &mut err);
+    match (kind, &shelf.requests) {
+        ("requests", Some(requests)) => show_requests(page, requests.as_slice()),
+        _ => show_call(page, kind, status, shelf.calls, &out, &err),
+    }
+}
+
+/// The same over a shelf that doesn't fail, of a file and a run of these bytes.
+pub fn call_on(page: &mut Page, kind: &str, words: &str, file: &[u8], run: &[u8]) {
+    let mut shelf = shelf_of(page, file, run, 0, 4096);
+    call(page, kind, words, &mut shelf, "", "");
+}
+
+/// The words; the bytes of a.spthy and of b.run; the number of the call at which the shelf fails, or 0, and behind it how many faults it
+/// had before, if any; how many bytes of a run it gives at once; the failures of out and those of err; and of the table `calls` how often
+/// the shelf is asked and out and err are written to, the status, and what out and err took, of `requests` what the shelf was asked for.
+pub fn calls_row(page: &mut Page, table: &str, row: &str) {
     let file = enclosed(page.alloc, "", part(row, 1), "");
     let run = enclosed(page.alloc, "", part(row, 2), "");
-    let piece = number(page, part(row, 3));
+    let (failing, faults) = parted(part(row, 3));
+    let failing = number(page, failing);
+    let piece = number(page, part(row, 4));
     if piece == 0 {
         page.fail();
         return;
     }
-    let mut shelf = shelf_of(page, file.as_bytes(), run.as_bytes(), 0, piece);
-    let mut text = Page::new(page.alloc);
-    call(&mut text, "counts", part(row, 0), &mut shelf, "", "");
-    match &shelf.requests {
-        Some(requests) => {
-            for asked in requests {
-                asked.show_on(page);
-            }
-        }
-        None => page.fail(),
+    let mut shelf = shelf_of(page, file.as_bytes(), run.as_bytes(), failing, piece);
+    if !faults.is_empty() {
+        shelf.count = number(page, faults);
     }
+    call(
+        page,
+        table,
+        part(row, 0),
+        &mut shelf,
+        part(row, 5),
+        part(row, 6),
+    );
 }
 
 /// Calls a command on the file, and shows of it what the kind asks for.
@@ -284,10 +265,13 @@ fn show_lines(page: &mut Page, text: &[u8]) {
     }
 }
 
-// A run converted by this command, or why it is refused.
-fn converted(page: &mut Page, words: &str, file: &[u8], run: &[u8]) -> Page {
+/// What out takes of a command on a file and a run, which the shelf gives in pieces of so many bytes; or the status and the texts.
+pub fn answered(page: &mut Page, words: &str, file: &[u8], run: &[u8], piece: u64) -> Page
+    requires { 0 < piece }
+{
     let mut text = Page::new(page.alloc);
-    call_on(&mut text, "text", words, file, run);
+    let mut shelf = shelf_of(page, file, run, 0, piece);
+    call(&mut text, "text", words, &mut shelf, "", "");
     if !text.is_whole {
         page.fail();
     }
@@ -297,21 +281,27 @@ fn converted(page: &mut Page, words: &str, file: &[u8], run: &[u8]) -> Page {
 /// `process`, a file, the lines of a run of its process, and those of the run of its rules opposite, or the first illegal line with its
 /// fault; and where these don't convert back to the first, what they convert back to, behind a bar. `rules`, a file, the lines of a run of
 /// its rules, and those of the run of its process opposite, or the first line that is refused or breaks a restriction. `fill`, a file, the
-/// lines of a short run of its process, and those of the run that it stands for, or the first step that is refused.
+/// lines of a short run of its process, and those of the run that it stands for, or the first step that is refused. `tell`, a file, the
+/// lines of a run of its process, and what is told of them, whole, or the first illegal line.
 pub fn conversions_row(page: &mut Page, row: &str) {
     let (head, words) = match part(row, 0) {
         "process" => ("process-run\n", "to-rules a.spthy b.run"),
         "fill" => ("short-run\n", "fill a.spthy b.run"),
+        "tell" => ("process-run\n", "tell a.spthy b.run"),
         _ => ("rule-run\n", "to-process a.spthy b.run"),
     };
     let behind = if part(row, 2).is_empty() { "" } else { "\n" };
     let file = file_bytes(page.alloc, part(row, 1));
     let run = enclosed(page.alloc, head, part(row, 2), behind);
-    let there = converted(page, words, file.as_bytes(), run.as_bytes());
-    show_lines(page, there.as_bytes());
+    let there = answered(page, words, file.as_bytes(), run.as_bytes(), 4096);
+    if part(row, 0) == "tell" {
+        show_inside(page, there.as_bytes(), "", "");
+    } else {
+        show_lines(page, there.as_bytes());
+    }
     if there.as_bytes().starts_with(b"rule-run\n") {
         let words = "to-process a.spthy b.run";
-        let back = converted(page, words, file.as_bytes(), there.as_bytes());
+        let back = answered(page, words, file.as_bytes(), there.as_bytes(), 4096);
         if back.as_bytes() != run.as_bytes() {
             page.word(" | ");
             show_lines(page, back.as_bytes());

@@ -76,45 +76,54 @@ fn show_derived(page: &mut Page, sig: &Signature, entries: &[Term], goal: &Term)
     }
 }
 
-// Enters each term in turn, or shows what is found of it, with a line feed behind that.
+// As `search` shows what is found of each term in turn, with a line feed behind that. Else enters each, as `deduce` behind whether it
+// can be deduced.
 fn take_each(
     page: &mut Page,
     sig: &Signature,
     search: &mut Search,
     terms: &[Term],
-    are_goals: bool,
+    kind: &str,
 ) -> Result<(), Mem>
     requires { search.old.sig ≡ sig.now }
     ensures { search.new.sig ≡ sig.now }
 {
+    let mut before = "";
     for t in terms {
         if !is_small(page.alloc, sig, t)? {
             page.fail();
-        } else if are_goals {
+        } else if kind == "search" {
             page.show(search.find(page.alloc, t));
             page.byte(b'\n');
         } else {
+            if kind == "deduce" {
+                page.word(before);
+                page.show(search.deduces(page.alloc, t));
+                before = " ";
+            }
             search.enter(page.alloc, t)?;
         }
     }
     Ok(())
 }
 
-// What one search finds of the goals, in turn.
+// What one search says of the goals, in turn.
 fn show_searched(
     page: &mut Page,
     sig: &Signature,
     entries: &[Term],
     goals: &[Term],
+    kind: &str,
 ) -> Result<(), Mem> {
     let mut search = Box::new(page.alloc, Search::new(page.alloc, sig)?)?;
-    take_each(page, sig, &mut search, entries, false)?;
-    take_each(page, sig, &mut search, goals, true)
+    take_each(page, sig, &mut search, entries, "enter")?;
+    take_each(page, sig, &mut search, goals, kind)
 }
 
 /// A signature, entries, and goals, with bars between them: behind `derive`, the lines by which the one goal is derived, and its
-/// number; behind `search`, what one search finds of each goal in turn; behind `read`,
-/// how many goals there are. `none` where there are no such lines.
+/// number; behind `search`, what one search finds of each goal in turn; `none` where there are no such lines. Behind `deduce`, whether each
+/// goal can be deduced from the entries and the goals before it, which are entered in turn; behind `read`, which `bench/fill.sh` asks, how many
+/// goals there are.
 pub fn derivations_row(page: &mut Page, desk: &mut Desk, row: &str) {
     desk.begin(page, part(row, 1), part(row, 2));
     let goals = list::<Term>(page, &desk.signature, '|', part(row, 3));
@@ -122,11 +131,10 @@ pub fn derivations_row(page: &mut Page, desk: &mut Desk, row: &str) {
     match (part(row, 0), goals.as_slice()) {
         ("derive", [goal]) => show_derived(page, &desk.signature, entries, goal),
         ("read", goals) => page.numbered("", goals.len() as u64),
-        ("search", goals) => {
-            if show_searched(page, &desk.signature, entries, goals).is_err() {
+        (kind, goals) => {
+            if show_searched(page, &desk.signature, entries, goals, kind).is_err() {
                 page.fail();
             }
         }
-        _ => page.fail(),
     }
 }

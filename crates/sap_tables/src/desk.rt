@@ -1,5 +1,4 @@
 //! What the rows of a table have made so far, where they go on from one another.
-use crate::known::Known;
 use crate::notation::{list, name, signature};
 use crate::page::Page;
 use sap_calc::Config;
@@ -9,14 +8,13 @@ use sap_steps::RuleState;
 use sap_terms::{Items, Signature, Term};
 use sap_tool::MemShelf;
 
-/// The symbols and terms of a row, and facts, a theory, knowledge, a run of rules and one of a process, and files by name.
+/// The symbols and terms of a row, and facts, a theory, a run of rules and one of a process, and files by name.
 #[derive(Drop)]
 pub struct Desk {
     pub signature: Signature,
     pub terms: Items<Term>,
     pub pile: Pile,
     pub theory: Theory,
-    pub knowledge: Option<Box<Known>>,
     pub run: Option<Box<RuleState>>,
     pub config: Option<Box<Config>>,
     pub shelf: MemShelf,
@@ -42,7 +40,6 @@ pub fn empty_desk(page: &mut Page, shelf: MemShelf) -> Option<Box<Desk>> {
         terms: Items::new(page.alloc),
         pile: Pile::new(page.alloc),
         theory,
-        knowledge: None,
         run: None,
         config: None,
         shelf,

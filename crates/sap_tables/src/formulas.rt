@@ -1,90 +1,61 @@
-//! Formulas: printed, checked, judged, and with restrictions that they carry.
+//! Formulas: printed and judged.
 use crate::notation::{enclosed, facts, first, name, part, tokens_of, trace};
 use crate::page::Page;
-use crate::theories::{add_lemma, add_restriction, begin, mode_of};
-use sap_formula::{Formula, FormulaFault, check, cost};
+use crate::theories::begin;
+use sap_formula::{Formula, Lemma, Mode, cost};
 use sap_judge::{ReadyTrace, Verdict, judge};
 use sap_read::read_formula;
-use sap_refusals::theory_line;
-use sap_restrict::inline;
 use sap_rule::Theory;
-use sap_terms::{Mem, Signature, Trace};
-use sap_theory::{TheoryFault, print};
+use sap_terms::{Items, Mem, Signature, Trace};
+use sap_theory::print;
 
 // A fact that may be persistent and have fresh names, at a time: `!F(~n1)@i`.
-fn action(page: &mut Page, sig: &Signature, fact: &str, time: &str) -> Option<Formula> {
+fn action(page: &mut Page, sig: &Signature, text: &str) -> Option<Box<Formula>> {
+    let (fact, time) = text.split_once('@')?;
     let fact = facts(page, sig, fact).into_vec().pop();
     let (fact, time) = fact.zip(name(page.alloc, time))?;
-    Some(Formula::Action(fact, time))
+    page.boxed(Some(Formula::Action(fact, time)))
+}
+
+// The formula that the text spells as in a file.
+fn spelled(page: &mut Page, sig: &Signature, text: &str) -> Option<Box<Formula>> {
+    let bytes = enclosed(page.alloc, "", text, "\"");
+    let found = tokens_of(page.alloc, bytes.as_bytes());
+    page.boxed(first(read_formula(page.alloc, sig, bytes.as_bytes(), &found, 0)))
 }
 
 /// The formula that the text spells as in a file, before it is checked; or behind `+` a fact at a time, which may be persistent and have
 /// fresh names.
 pub fn formula(page: &mut Page, sig: &Signature, text: &str) -> Option<Box<Formula>> {
-    let made = match text.strip_prefix('+') {
-        Some(text) => {
-            let (fact, time) = text.split_once('@')?;
-            action(page, sig, fact, time)
-        }
-        None => {
-            let bytes = enclosed(page.alloc, "", text, "\"");
-            let found = tokens_of(page.alloc, bytes.as_bytes());
-            first(read_formula(page.alloc, sig, bytes.as_bytes(), &found, 0))
-        }
-    };
-    page.boxed(made)
+    match text.strip_prefix('+') {
+        Some(text) => action(page, sig, text),
+        None => spelled(page, sig, text),
+    }
 }
 
-// Puts last the formula as it is printed: as the lemma l of the theory, in which nothing else stands but symbols that are built in.
-fn show_formula(page: &mut Page, t: &mut Theory, formula: Option<Box<Formula>>) {
+// Adds to the theory the lemma l of this formula, for all traces.
+fn add_lemma(page: &mut Page, t: &mut Theory, formula: Option<Box<Formula>>) {
+    match name(page.alloc, "l").zip(formula) {
+        Some((name, formula)) => page.put(
+            &mut t.lemmas,
+            Some(Lemma {
+                name,
+                attributes: Items::new(page.alloc),
+                mode: Mode::AllTraces,
+                formula: Box::into_inner(formula),
+            }),
+        ),
+        None => page.fail(),
+    }
+}
+
+/// A formula, and its text in the lemma l of a theory in which nothing else stands.
+pub fn formulas_row(page: &mut Page, t: &mut Theory, row: &str) {
     begin(page, t, "");
-    add_lemma(page, t, "lemma % l % % all", formula);
+    let formula = formula(page, &t.signature, part(row, 0));
+    add_lemma(page, t, formula);
     let before = "theory T\nbegin\n\nlemma l:\n  all-traces\n  \"";
     page.text(print(page.alloc, t), before, "\"\n\nend\n");
-}
-
-/// A formula, and its text in a lemma.
-pub fn formulas_row(page: &mut Page, t: &mut Theory, row: &str) {
-    let formula = formula(page, &t.signature, part(row, 0));
-    show_formula(page, t, formula);
-}
-
-// The formula as it is checked, or its fault.
-fn checked(
-    page: &mut Page,
-    sig: &Signature,
-    f: &Formula,
-    reserved: bool,
-) -> Result<Option<Box<Formula>>, FormulaFault> {
-    let checked = check(page.alloc, sig, f, reserved)?;
-    Ok(page.boxed(Some(checked)))
-}
-
-// Why the formula of the lemma l is refused.
-fn show_fault(page: &mut Page, fault: FormulaFault) {
-    match name(page.alloc, "l") {
-        Some(name) => {
-            let line = theory_line(page.alloc, &TheoryFault::Formula { name, fault });
-            page.text(line, "file refused: l: ", "\n");
-        }
-        None => page.fail(),
-    }
-}
-
-fn show_checked(page: &mut Page, t: &mut Theory, f: &Formula, reserved: bool) {
-    match checked(page, &t.signature, f, reserved) {
-        Ok(f) => show_formula(page, t, f),
-        Err(fault) => show_fault(page, fault),
-    }
-}
-
-/// Symbols, `reserved` or `any`, a formula, and why it is refused or its text once it is checked.
-pub fn checks_row(page: &mut Page, t: &mut Theory, row: &str) {
-    begin(page, t, part(row, 0));
-    match formula(page, &t.signature, part(row, 2)) {
-        Some(f) => show_checked(page, t, &f, part(row, 1) == "reserved"),
-        None => page.fail(),
-    }
 }
 
 // What the judge says.
@@ -133,21 +104,5 @@ pub fn costs_row(page: &mut Page, t: &mut Theory, row: &str) {
             }
         }
         Err(_) => page.fail(),
-    }
-}
-
-/// `all` or `some`, restrictions with semicolons between them, a formula, and the formula that carries them.
-pub fn inlines_row(page: &mut Page, t: &mut Theory, row: &str) {
-    begin(page, t, "");
-    for text in part(row, 1).split(';') {
-        add_restriction(page, t, "r", text.trim());
-    }
-    match formula(page, &t.signature, part(row, 2)) {
-        Some(f) => {
-            let mode = mode_of(part(row, 0));
-            let carrying = page.boxed(inline(page.alloc, &t.restrictions, mode, &f).ok());
-            show_formula(page, t, carrying);
-        }
-        None => page.fail(),
     }
 }

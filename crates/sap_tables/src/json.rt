@@ -1,31 +1,22 @@
 //! Runs as JSON: what `to-json` and `from-json` make of bytes.
-use crate::calls::call_on;
+use crate::calls::answered;
 use crate::desk::Desk;
 use crate::notation::{between, enclosed, part};
 use crate::page::Page;
 
-// The words of the two commands.
-const TO_JSON: &str = "to-json b.run";
+/// The words of `to-json`.
+pub const TO_JSON: &str = "to-json b.run";
 
-const FROM_JSON: &str = "from-json b.run";
+/// The words of `from-json`.
+pub const FROM_JSON: &str = "from-json b.run";
 
 // What stands before the arrays of steps.
 const PROCESS: &str = "{\"kind\":\"process-run\",\"steps\":[";
 
 const RULES: &str = "{\"kind\":\"rule-run\",\"steps\":[";
 
-// What the command writes of the run, or the status and the line that refuses it.
-fn answered(page: &mut Page, words: &str, run: &[u8]) -> Page {
-    let mut text = Page::new(page.alloc);
-    call_on(&mut text, "text", words, b"", run);
-    if !text.is_whole {
-        page.fail();
-    }
-    text
-}
-
-// Why the run is refused, or what stands between these two in the text, or all.
-fn show_inside(page: &mut Page, text: &[u8], before: &str, behind: &str) {
+/// Why the run is refused, or what stands between these two in the text, or all.
+pub fn show_inside(page: &mut Page, text: &[u8], before: &str, behind: &str) {
     let cause = between(text, "2 err run refused: ", "\n");
     match cause.or(between(text, before, behind)) {
         Some(inside) => page.bytes(inside),
@@ -51,10 +42,10 @@ pub fn json_row(page: &mut Page, row: &str) {
         TO_JSON
     };
     let bytes = enclosed(page.alloc, before, part(row, 1), behind);
-    let text = answered(page, words, bytes.as_bytes());
+    let text = answered(page, words, b"", bytes.as_bytes(), 4096);
     show_inside(page, text.as_bytes(), first, last);
     if text.as_bytes().starts_with(b"{") {
-        let again = answered(page, FROM_JSON, text.as_bytes());
+        let again = answered(page, FROM_JSON, b"", text.as_bytes(), 4096);
         if again.as_bytes() != bytes.as_bytes() {
             page.word(" | ");
             show_inside(page, again.as_bytes(), before, behind);
@@ -66,8 +57,8 @@ pub fn json_row(page: &mut Page, row: &str) {
 pub fn example_row(page: &mut Page, desk: &Desk, name: &str) {
     match desk.shelf.files.get(name) {
         Some(run) => {
-            let text = answered(page, TO_JSON, run.as_slice());
-            let again = answered(page, FROM_JSON, text.as_bytes());
+            let text = answered(page, TO_JSON, b"", run.as_slice(), 4096);
+            let again = answered(page, FROM_JSON, b"", text.as_bytes(), 4096);
             page.bytes(again.as_bytes());
         }
         None => page.fail(),

@@ -4,15 +4,12 @@
 
 mod calls;
 mod copies;
-mod deductions;
 mod derivations;
 mod desk;
 mod files;
 mod formulas;
 mod guards;
 mod json;
-mod knowledge;
-mod known;
 mod notation;
 mod page;
 mod piles;
@@ -27,7 +24,6 @@ mod tables;
 mod terms;
 mod theories;
 mod tokens;
-mod told;
 
 use calls::put_file;
 use page::Page;

@@ -178,9 +178,9 @@ impl FromText for Binding {
 impl FromText for Term {
     fn from_text(page: &mut Page, sig: &Signature, text: &str) -> Option<Term> {
         let (text, bound) = text.split_once(" where ").unwrap_or((text, ""));
-        let term = named_term(page, sig, text);
         let bound = list(page, sig, ';', bound);
-        subst(page.alloc, &term?, &bound).ok()
+        let term = named_term(page, sig, text);
+        instance(page.alloc, term, &bound)
     }
 }
 
@@ -200,27 +200,45 @@ pub fn tokens_of(alloc: Global, bytes: &[u8]) -> Vec<Token> {
     }
 }
 
-// The variables ~n0 to ~n9 stand for the fresh names 0 to 9.
+// The fresh names 0 to 9, for which these variables stand.
 const FRESH_NAMES: &str =
     "rule-run\nrule R with ~n0=~0 ~n1=~1 ~n2=~2 ~n3=~3 ~n4=~4 ~n5=~5 ~n6=~6 ~n7=~7 ~n8=~8 ~n9=~9\n";
 
-fn with_fresh_names(alloc: Global, term: &Term) -> Option<Term> {
+// What the variables ~n0 to ~n9 of the text stand for: nothing where it has none.
+fn fresh_names(alloc: Global, text: &str) -> Option<Bindings> {
+    if !text.contains("~n") {
+        return Some(Bindings::new(alloc));
+    }
     match read_rrun(alloc, FRESH_NAMES.as_bytes()).ok()?.as_slice() {
-        [RStep::Rule(_, _, names)] => subst(alloc, term, names).ok(),
+        [RStep::Rule(_, _, names)] => names.copy(alloc).ok(),
         _ => None,
     }
 }
 
-// The term that the text spells, with fresh names.
-fn named_term(page: &mut Page, sig: &Signature, text: &str) -> Option<Term> {
+// The term with each bound variable replaced, if there is one.
+fn instance(alloc: Global, term: Option<Term>, bound: &Bindings) -> Option<Term> {
+    match term {
+        Some(term) => {
+            let made = subst(alloc, &term, bound).ok();
+            drop(term);
+            made
+        }
+        None => None,
+    }
+}
+
+// The term that the text spells, as a file has it.
+fn spelled_term(page: &mut Page, sig: &Signature, text: &str) -> Option<Term> {
     let bytes = written(page.alloc, text);
     let found = tokens_of(page.alloc, bytes.as_bytes());
-    let term = first(read_term(page.alloc, sig, bytes.as_bytes(), &found, 0));
-    if text.contains("~n") {
-        with_fresh_names(page.alloc, &term?)
-    } else {
-        term
-    }
+    first(read_term(page.alloc, sig, bytes.as_bytes(), &found, 0))
+}
+
+// The term that the text spells, with fresh names.
+fn named_term(page: &mut Page, sig: &Signature, text: &str) -> Option<Term> {
+    let names = fresh_names(page.alloc, text)?;
+    let term = spelled_term(page, sig, text);
+    instance(page.alloc, term, &names)
 }
 
 // The facts that the bytes spell up to the bracket at their end.
@@ -232,14 +250,15 @@ fn spelled_facts(alloc: Global, sig: &Signature, bytes: &[u8]) -> Option<FactLis
     }
 }
 
-// The fact with fresh names.
-fn named_fact(alloc: Global, fact: &Fact) -> Option<Fact> {
+// The fact with each bound variable replaced.
+fn named_fact(alloc: Global, fact: &Fact, names: &Bindings) -> Option<Fact> {
+    let name = fact.name.copy(alloc).ok()?;
     let mut args = TermList::new(alloc);
     for arg in fact.args.as_slice() {
-        args.push(with_fresh_names(alloc, arg)?).ok()?;
+        args.push(subst(alloc, arg, names).ok()?).ok()?;
     }
     Some(Fact {
-        name: fact.name.copy(alloc).ok()?,
+        name,
         persistent: fact.persistent,
         args,
     })
@@ -249,11 +268,11 @@ fn named_fact(alloc: Global, fact: &Fact) -> Option<Fact> {
 pub fn facts(page: &mut Page, sig: &Signature, text: &str) -> FactList {
     let mut list = FactList::new(page.alloc);
     let bytes = enclosed(page.alloc, "", text, " ]");
-    match spelled_facts(page.alloc, sig, bytes.as_bytes()) {
-        Some(spelled) if !text.contains("~n") => return spelled,
-        Some(spelled) => {
+    let names = fresh_names(page.alloc, text);
+    match spelled_facts(page.alloc, sig, bytes.as_bytes()).zip(names) {
+        Some((spelled, names)) => {
             for fact in spelled.as_slice() {
-                let fact = named_fact(page.alloc, fact);
+                let fact = named_fact(page.alloc, fact, &names);
                 page.put(&mut list, fact);
             }
         }

@@ -36,13 +36,11 @@ fn start(page: &mut Page, desk: &mut Desk, text: &str) {
     }
 }
 
-// The line of a run; an embedded rule's open variables stand for what these bindings say.
+// The copy of a line of a run; an embedded rule's open variables stand for what these bindings say.
 fn line(page: &mut Page, sig: &Signature, text: &str, bound: &str) -> Option<Box<PStep>> {
     let bytes = enclosed(page.alloc, "process-run\n", text, "\n");
-    let step = read_prun(page.alloc, bytes.as_bytes())
-        .ok()?
-        .into_vec()
-        .pop();
+    let read = read_prun(page.alloc, bytes.as_bytes()).ok()?;
+    let step = read.copy(page.alloc).ok()?.into_vec().pop();
     let mut step = page.boxed(step)?;
     if let PStep::Embedded(_, _, bindings) = &mut *step {
         *bindings = list(page, sig, ';', bound);

@@ -24,7 +24,7 @@ fn seen(alloc: Global, row: &str, failing: u64, put: u64, taken: u64) -> Page {
     call.numbered("% 4096 %", put);
     call.numbered(" ", taken);
     let mut found = Page::new(alloc);
-    calls_row(&mut found, text(&call));
+    calls_row(&mut found, "calls", text(&call));
     found
 }
 

@@ -9,7 +9,7 @@ use sap_rule::Theory;
 use sap_run_texts::read_rrun;
 use sap_runs::RStep;
 use sap_steps::RuleState;
-use sap_terms::{Mem, Signature};
+use sap_terms::{Copied, Mem, Signature};
 use std::alloc::Global;
 
 fn started(alloc: Global, theory: &Theory) -> Result<Option<Box<RuleState>>, Mem> {
@@ -19,13 +19,11 @@ fn started(alloc: Global, theory: &Theory) -> Result<Option<Box<RuleState>>, Mem
     Ok(Some(Box::new(alloc, RuleState::start(alloc, theory)?)?))
 }
 
-// The line of a run; a rule's open variables stand for what these bindings say.
+// The copy of a line of a run; a rule's open variables stand for what these bindings say.
 fn line(page: &mut Page, sig: &Signature, text: &str, bound: &str) -> Option<Box<RStep>> {
     let bytes = enclosed(page.alloc, "rule-run\n", text, "\n");
-    let step = read_rrun(page.alloc, bytes.as_bytes())
-        .ok()?
-        .into_vec()
-        .pop();
+    let read = read_rrun(page.alloc, bytes.as_bytes()).ok()?;
+    let step = read.copy(page.alloc).ok()?.into_vec().pop();
     let mut step = page.boxed(step)?;
     if let RStep::Rule(_, _, bindings) = &mut *step {
         *bindings = list(page, sig, ';', bound);

@@ -1,8 +1,7 @@
 //! Texts of short runs as they are read.
 use crate::notation::{enclosed, part};
 use crate::page::Page;
-use crate::run_texts::show_fault;
-use sap_run_texts::{print_prun, read_srun};
+use sap_run_texts::{RunFault, print_prun, read_srun};
 use sap_runs::{PStep, PSteps, SStep, SSteps};
 use sap_terms::{Copied, Mem, Term};
 use sap_text::Text;
@@ -50,6 +49,16 @@ fn show_steps(page: &mut Page, steps: &Result<SSteps, Mem>) {
             }
         }
         Err(_) => page.fail(),
+    }
+}
+
+// Why a text is no run.
+fn show_fault(page: &mut Page, fault: &RunFault) {
+    match fault {
+        RunFault::Mem => page.fail(),
+        RunFault::BadHead => page.word("bad head"),
+        RunFault::BadLine { line } => page.numbered("bad line ", *line),
+        RunFault::TooManySteps => page.word("too many steps"),
     }
 }
 

@@ -4,8 +4,8 @@ use crate::desk::{Desk, empty_desk};
 use crate::notation::{number, part, written};
 use crate::page::Page;
 use crate::{
-    calls, copies, deductions, derivations, files, formulas, guards, json, knowledge, piles,
-    processes, refused, run_texts, runs, sharing, short_runs, terms, theories, tokens, told,
+    calls, copies, derivations, files, formulas, guards, json, piles, processes, refused,
+    run_texts, runs, sharing, short_runs, terms, theories, tokens,
 };
 use std::collections::BTreeMap;
 
@@ -15,8 +15,7 @@ const BUILTINS: &str = "hashing symmetric asymmetric signing";
 /// Puts last what is found for a row of the table. The page isn't whole where the row isn't written as the table's rows are.
 pub fn show_found(page: &mut Page, desk: &mut Desk, table: &str, row: &str) {
     match table {
-        "tokens" => tokens::tokens_row(page, row),
-        "pieces" => tokens::pieces_row(page, row),
+        "tokens" | "pieces" => tokens::tokens_row(page, table, row),
         "numbers" => {
             let number = number(page, part(row, 0));
             page.numbered("", number);
@@ -29,9 +28,7 @@ pub fn show_found(page: &mut Page, desk: &mut Desk, table: &str, row: &str) {
         "additions" => terms::additions_row(page, &mut desk.signature, row),
         "copies" => copies::copies_row(page, &desk.signature, row),
         "sharing" => sharing::sharing_row(page, desk, row),
-        "knowledge" => knowledge::knowledge_row(page, desk, row),
-        "deductions" => deductions::deductions_row(page, desk, row),
-        "derivations" => derivations::derivations_row(page, desk, row),
+        "deductions" | "derivations" => derivations::derivations_row(page, desk, row),
         "piles" => piles::piles_row(page, &desk.signature, &mut desk.pile, row),
         _ => show_found_above(page, desk, table, row),
     }
@@ -44,18 +41,14 @@ fn show_found_above(page: &mut Page, desk: &mut Desk, table: &str, row: &str) {
         "short-runs" => short_runs::short_runs_row(page, row),
         "run-texts" => run_texts::run_texts_row(page, row),
         "rule-runs" => runs::runs_row(page, desk, row),
-        "process-runs" => processes::processes_row(page, desk, row),
-        "conversions" | "fillings" => calls::conversions_row(page, row),
-        "told" => told::told_row(page, row),
+        "process-runs" | "knowledge" => processes::processes_row(page, desk, row),
+        "conversions" | "fillings" | "told" => calls::conversions_row(page, row),
         "runs-of-examples" => calls::examples_row(page, desk, row),
         "formulas" => formulas::formulas_row(page, &mut desk.theory, row),
-        "checks" => formulas::checks_row(page, &mut desk.theory, row),
         "judgements" => formulas::judgements_row(page, &mut desk.theory, row),
         "costs" => formulas::costs_row(page, &mut desk.theory, row),
-        "inlines" => formulas::inlines_row(page, &mut desk.theory, row),
         "guards" => guards::guards_row(page, &mut desk.theory, row),
-        "theories" => theories::theories_row(page, &mut desk.theory, row),
-        "read-theories" => theories::read_row(page, row),
+        "theories" | "read-theories" | "checks" => theories::read_row(page, row),
         "files" => files::files_row(page, &desk.signature, row),
         "refusals" => calls::command(page, "refusal", "compile a.spthy", part(row, 0)),
         "why" => calls::command(page, "text", "why a.spthy", part(row, 0)),
@@ -70,9 +63,8 @@ fn show_found_above(page: &mut Page, desk: &mut Desk, table: &str, row: &str) {
         ),
         "written-theories" => calls::command(page, "back", part(row, 0), part(row, 1)),
         "statements" => calls::statements_row(page, row),
-        "calls" => calls::calls_row(page, row),
+        "calls" | "requests" => calls::calls_row(page, table, row),
         "json" => json::json_row(page, row),
-        "requests" => calls::requests_row(page, row),
         "failing" => refused::failing_row(page, row),
         "cut" => refused::cut_row(page, row),
         "prefixes" => refused::prefixes_row(page, row),

@@ -1,10 +1,8 @@
 //! Theories that rows make or spell, and how they are printed; rules.
 use crate::desk::empty_theory;
-use crate::formulas::formula;
-use crate::notation::{file_bytes, list, name, part, rule};
+use crate::notation::{file_bytes, name, part, rule};
 use crate::page::Page;
 use crate::show::Show;
-use sap_formula::{Formula, Lemma, Mode, Restriction};
 use sap_refusals::theory_line;
 use sap_rule::{Rule, Theory, is_well_made, open_vars};
 use sap_terms::{Copied, Signature};
@@ -18,47 +16,7 @@ pub fn begin(page: &mut Page, t: &mut Theory, symbols: &str) {
     page.set(t, theory);
 }
 
-/// Adds to the theory a restriction of a name and the text of a formula.
-pub fn add_restriction(page: &mut Page, t: &mut Theory, title: &str, text: &str) {
-    let formula = formula(page, &t.signature, text);
-    match name(page.alloc, title).zip(formula) {
-        Some((name, formula)) => page.put(
-            &mut t.restrictions,
-            Some(Restriction {
-                name,
-                formula: Box::into_inner(formula),
-            }),
-        ),
-        None => page.fail(),
-    }
-}
-
-/// The mode of lemmas, `all` or `some`.
-pub fn mode_of(word: &str) -> Mode {
-    match word {
-        "all" => Mode::AllTraces,
-        _ => Mode::ExistsTrace,
-    }
-}
-
-/// Adds to the theory a lemma of a row: its name, its attributes, its mode, which is `all` or `some`, and its formula.
-pub fn add_lemma(page: &mut Page, t: &mut Theory, row: &str, formula: Option<Box<Formula>>) {
-    let attributes = list(page, &t.signature, ' ', part(row, 2));
-    match name(page.alloc, part(row, 1)).zip(formula) {
-        Some((name, formula)) => page.put(
-            &mut t.lemmas,
-            Some(Lemma {
-                name,
-                attributes,
-                mode: mode_of(part(row, 3)),
-                formula: Box::into_inner(formula),
-            }),
-        ),
-        None => page.fail(),
-    }
-}
-
-// `theory` and symbols begins anew; `rule`, `restriction` and `lemma` add one; and how many there are of the kind.
+// `theory` and symbols begins anew; `rule` adds one; and how many rules there are.
 fn made_row(page: &mut Page, t: &mut Theory, row: &str) {
     match part(row, 0) {
         "theory" => {
@@ -69,15 +27,6 @@ fn made_row(page: &mut Page, t: &mut Theory, row: &str) {
             let rule = rule(page, &t.signature, part(row, 1));
             page.put(&mut t.rules, rule);
             page.numbered("", t.rules.len());
-        }
-        "restriction" => {
-            add_restriction(page, t, part(row, 1), part(row, 2));
-            page.numbered("", t.restrictions.len());
-        }
-        "lemma" => {
-            let formula = formula(page, &t.signature, part(row, 4));
-            add_lemma(page, t, row, formula);
-            page.numbered("", t.lemmas.len());
         }
         _ => page.fail(),
     }
@@ -103,27 +52,6 @@ pub fn rules_row(page: &mut Page, t: &mut Theory, row: &str) {
             Some(name) => page.show(t.rule_named(name)),
             None => page.fail(),
         },
-        _ => made_row(page, t, row),
-    }
-}
-
-// Puts last the theory as it is printed, with copies in place of its restrictions and lemmas.
-fn show_theory(page: &mut Page, t: &mut Theory) {
-    let restrictions = t.restrictions.copy(page.alloc).ok();
-    page.set(&mut t.restrictions, restrictions);
-    let lemmas = t.lemmas.copy(page.alloc).ok();
-    page.set(&mut t.lemmas, lemmas);
-    page.text(print(page.alloc, t), "", "");
-}
-
-/// Rows that make a theory, and `print`, its text; `symbols`, and the text of the theory that has these alone.
-pub fn theories_row(page: &mut Page, t: &mut Theory, row: &str) {
-    match part(row, 0) {
-        "print" => show_theory(page, t),
-        "symbols" => {
-            begin(page, t, part(row, 1));
-            show_theory(page, t);
-        }
         _ => made_row(page, t, row),
     }
 }
