@@ -12,11 +12,11 @@ use Rattle.sap_process.specs.Ready.{IsReady}
 use Rattle.sap_runs.specs.Marks.{marks_of}
 use Rattle.sap_runs.specs.declared.process_step.PStep.{PStep}
 use Rattle.sap_terms.specs.Signature.{Sig, HoldsBuiltins}
-use Rattle.sap_teller.specs.Telling.{IsToldAs, IsFirstRefusedLine}
+use Rattle.sap_teller.specs.Telling.{IsToldAs, IsDeniedAt, IsFirstRefusedLine}
 use Rattle.sap_tell.specs.ThreadPaths.{paths_from, paths_after, thread_paths}
 use Rattle.sap_tell.specs.Told as told
 use Rattle.sap_tell.specs.Told.{IsToldRun, IsToldLine}
-use Rattle.sap_teller.specs.code.Runs.{IsNextTold, IsDeniedAt, IsToldSoFar}
+use Rattle.sap_teller.specs.code.Runs.{IsNextTold, IsToldSoFar}
 use Rattle.sap_teller.specs.declared.telling.Along.{Along}
 use Rattle.sap_teller.specs.declared.told_run.ToldRun.{ToldRun}
 use Rattle.sap_tell.specs.ToldLaws.{ToldRunsAreLegal}

@@ -1,6 +1,6 @@
 -- One line that is done and told, and a run that is.
 use Rattle.std.specs.Prelude.{◌≡◌, ◌+◌, ℕ, List, [], ◌∷◌, ◌++◌, length}
-use Rattle.sap_calc.specs.Running.{Running, configuration}
+use Rattle.sap_calc.specs.Running.{Running, configuration, IsDenied}
 use Rattle.sap_deduce.specs.Entries.{terms_of}
 use Rattle.sap_lines.specs.Faults.{IsRefused}
 use Rattle.sap_lines.specs.Lines.{IsProcessLine}
@@ -48,6 +48,12 @@ pub record IsToldApart (r z : Running) (a b : Along) (before after apart_before 
   pub paths : b.paths ≡ paths_after a.paths step
   pub lines : b.lines ≡ a.lines + 1
   pub facts : b.facts ≡ length z.facts
+
+-- the line with this number is refused for this cause, which isn't want of memory
+pub record IsDeniedAt (r : Running) (step : PStep) (number n : ℕ) (fault : PFault) : Type 0 where
+  pub same : n ≡ number
+  pub denied : IsDenied r step fault
+  pub cause : ¬ (fault ≡ Mem)
 
 -- the lines are a legal run of the process within the limit, and it is told by the text
 pub record IsToldAs (g : Sig) (p : Proc) (lines : List PStep) (trace : Trace) (text : List ℕ) : Type 0 where

@@ -3,13 +3,13 @@ ghost use Rattle.std.specs.Prelude.{◌≡◌, ◌++◌, IfOk, OnOk, codes, deci
 ghost use Rattle.sap_grammar.specs.FactText.{facts_text, arrow_text};
 ghost use Rattle.sap_grammar.specs.Pieces.{joined};
 ghost use Rattle.sap_grammar.specs.TermText.{term_text, tree_text, variable_text};
-ghost use Rattle.sap_terms.specs.Tree.{fresh, public};
+ghost use Rattle.sap_terms.specs.Tree.{fresh};
 ghost use Rattle.sap_terms.specs.View.{tree};
 ghost use Rattle.sap_teller.specs.code.Doings.{action_of};
 ghost use Rattle.sap_teller.specs.declared.doing.Doing.TheVariants as does;
 
 use sap_grammar::{
-    push_arrow, push_fact, push_facts, push_separator, push_variable, push_whole_term,
+    push_arrow, push_fact, push_facts, push_public, push_separator, push_variable, push_whole_term,
 };
 use sap_terms::{Bindings, FactList, Mem, Name, Numbers, Term, Var};
 use sap_text::Text;
@@ -186,15 +186,6 @@ fn push_named(text: &mut Text, n: u64) -> Result<(), Mem>
     text.push_number(n)
 }
 
-// A public name that is written.
-fn push_written(text: &mut Text, a: &Name) -> Result<(), Mem>
-    ensures { OnOk result (text.new ≡ text.old ++ tree_text (public a.now)) }
-{
-    text.push_byte(b'\'')?;
-    text.push_bytes(a.as_bytes())?;
-    text.push_byte(b'\'')
-}
-
 // Numbers with commas between them.
 fn push_numbers(text: &mut Text, numbers: &Numbers) -> Result<(), Mem>
     ensures { OnOk result (text.new ≡ text.old ++ joined (codes ",") (map decimal numbers.now)) }
@@ -240,7 +231,7 @@ pub(crate) fn push_action(text: &mut Text, label: &FactList, doing: &Doing) -> R
         Doing::Holds(k, false) => push_word(text, b"unlock ", k),
         Doing::Uses(left, right, _, _) => push_used(text, left, label, right),
         Doing::Names(n) => push_named(text, *n),
-        Doing::Writes(a) => push_written(text, a),
+        Doing::Writes(a) => push_public(text, a),
         Doing::Gives(x) => push_whole_term(text, x),
         Doing::Applies(f, numbers, x) => push_applied(text, f, numbers, x),
     }

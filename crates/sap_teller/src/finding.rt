@@ -1,6 +1,5 @@
 //! What lines do, found from what was kept of them.
-ghost use Rattle.std.specs.Prelude.{◌≡◌, ◌++◌, [], IfOk, IfSome, IfNone, OnOk, MatchOption};
-ghost use Rattle.sap_process.specs.Heads.{facts_terms};
+ghost use Rattle.std.specs.Prelude.{◌≡◌, [], IfOk, IfSome, IfNone, MatchOption};
 ghost use Rattle.sap_rewrite.specs.Match.{IsOnlyMatch, HasNoMatch};
 ghost use Rattle.sap_terms.specs.Equations.{equations, app2, pair_name};
 ghost use Rattle.sap_terms.specs.Normal.{IsNormalForm};
@@ -10,11 +9,12 @@ ghost use Rattle.sap_teller.specs.code.Heads.{form_of, IsCompared, IsDeleted, Is
 ghost use Rattle.sap_teller.specs.declared.doing.Doing.TheVariants as does;
 
 use crate::doing::Doing;
+use sap_heads::terms_of_facts;
 use sap_lines::Form;
 use sap_rewrite::{match_pattern, normal};
 use sap_terms::{
-    Bindings, Copied, FactList, Mem, Name, Signature, Term, TermList, boxed,
-    destructors_head_left_sides, leaves_are_normal,
+    Bindings, Copied, FactList, Mem, Name, Signature, Term, boxed, destructors_head_left_sides,
+    leaves_are_normal,
 };
 use std::alloc::Global;
 
@@ -245,32 +245,11 @@ pub(crate) fn met<'a>(
     }
 }
 
-// Puts terms last.
-fn push_terms(alloc: Global, ts: &TermList, out: &mut TermList) -> Result<(), Mem>
-    ensures { OnOk result (out.new ≡ out.old ++ ts.now) }
-{
-    for k in 0..ts.len() {
-        out.push(ts.at(k).copy(alloc)?)?;
-    }
-    Ok(())
-}
-
-// The arguments of facts, one fact after another.
-fn args_of(alloc: Global, fs: &FactList) -> Result<TermList, Mem>
-    ensures { IfOk result (λ ts. ts ≡ facts_terms fs.now) }
-{
-    let mut out = TermList::new(alloc);
-    for f in fs.as_slice() {
-        push_terms(alloc, &f.args, &mut out)?;
-    }
-    Ok(out)
-}
-
 // The arguments of facts, as one term.
 fn term_of(alloc: Global, fs: &FactList) -> Result<Box<Term>, Mem>
     ensures { IfOk result (λ t. tree t.value ≡ together fs.now) }
 {
-    let args = args_of(alloc, fs)?;
+    let args = terms_of_facts(alloc, fs)?;
     let name = Name::from_bytes(alloc, b"")?;
     boxed(alloc, Term::App(name, args))
 }

@@ -10,8 +10,8 @@ ghost use Rattle.sap_process.specs.Proc.{Proc, proc};
 ghost use Rattle.sap_process.specs.Ready.{IsReady};
 ghost use Rattle.sap_terms.specs.Signature.{HoldsBuiltins};
 ghost use Rattle.sap_terms.specs.Trace.{shown};
-ghost use Rattle.sap_teller.specs.Telling.{IsFirstRefusedLine, IsToldAs};
-ghost use Rattle.sap_teller.specs.code.Runs.{IsDeniedAt, IsNextTold};
+ghost use Rattle.sap_teller.specs.Telling.{IsDeniedAt, IsFirstRefusedLine, IsToldAs};
+ghost use Rattle.sap_teller.specs.code.Runs.{IsNextTold};
 ghost use Rattle.sap_teller.specs.declared.told_run.Untold.TheVariants as untold;
 
 use crate::telling::{Along, tell_line};

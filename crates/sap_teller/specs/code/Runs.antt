@@ -1,9 +1,7 @@
 -- A run that is told line by line.
-use Rattle.std.specs.Prelude.{◌≡◌, ℕ, List, ◌++◌, length}
-use Rattle.sap_calc.specs.Running.{Running, configuration, IsDenied}
+use Rattle.std.specs.Prelude.{◌≡◌, List, ◌++◌, length}
+use Rattle.sap_calc.specs.Running.{Running, configuration}
 use Rattle.sap_deduce.specs.Entries.{terms_of}
-use Rattle.sap_lines.specs.declared.fault.PFault.{PFault}
-use Rattle.sap_lines.specs.declared.fault.PFault.TheVariants.{Mem}
 use Rattle.sap_process.specs.Proc.{Proc}
 use Rattle.sap_runs.specs.Marks.{Mark}
 use Rattle.sap_runs.specs.declared.process_step.PStep.{PStep}
@@ -21,12 +19,6 @@ pub record IsNextTold (r z : Running) (a b : Along) (before after : ToldRun) (st
   pub label : List Fact
   pub done : IsToldOn r z a b before.text after.text step label
   pub grows : after.trace ≡ before.trace ++ shown label
-
--- the line with this number is refused for this cause, which isn't want of memory
-pub record IsDeniedAt (r : Running) (step : PStep) (number n : ℕ) (fault : PFault) : Type 0 where
-  pub same : n ≡ number
-  pub denied : IsDenied r step fault
-  pub cause : ¬ (fault ≡ Mem)
 
 -- so far the lines are a run that is told
 pub record IsToldSoFar (g : Sig) (p : Proc) (lines : List PStep) (z : Running) (a : Along) (t : ToldRun) : Type 0 where

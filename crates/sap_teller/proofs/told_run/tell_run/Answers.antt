@@ -6,7 +6,8 @@ use Rattle.sap_lines.specs.Answers.{MatchesExactly}
 use Rattle.sap_process.specs.Proc.{proc}
 use Rattle.sap_runs.specs.declared.process_step.PStep.{PStep}
 use Rattle.sap_terms.proofs.PlainLaws.Lists.{take_got}
-use Rattle.sap_teller.specs.code.Runs.{IsDeniedAt, IsNextTold, IsToldSoFar}
+use Rattle.sap_teller.specs.Telling.{IsDeniedAt}
+use Rattle.sap_teller.specs.code.Runs.{IsNextTold, IsToldSoFar}
 use Rattle.sap_teller.specs.declared.told_run.Untold.TheVariants.{Line}
 use Rattle.sap_teller.proofs.ToldRuns.{none_told, more_told, told_exactly, all_told, first_refused, take_all}
 use Rattle.sap_teller.proofs.told_run.tell_run.Goals as goal
