@@ -16,13 +16,13 @@ use Rattle.sap_tell.specs.ThreadPaths.{paths_from, paths_after, thread_paths}
 use Rattle.sap_tell.specs.Told.{IsToldLine}
 use Rattle.sap_tell.specs.ToldLaws.{ToldRunsAreLegal}
 use Rattle.sap_tell.specs.ToldText.{actor_text, line_text, outcomes_text, seen_texts}
-use Rattle.sap_teller.specs.Telling.{IsFirstRefusedLine}
+use Rattle.sap_teller.specs.Telling.{IsDeniedAt, IsFirstRefusedLine}
 use Rattle.sap_teller.specs.declared.telling.Along.{Along}
 use Rattle.sap_chart.specs.Chart as drawn
 use Rattle.sap_chart.specs.Chart.{IsChart, IsCharted, IsDrawnRun}
 use Rattle.sap_chart.specs.ChartText.{chart_text, rows_text, with_lifeline}
 use Rattle.sap_chart.specs.Rows.{Row, figure_of, new_entry, rows_of, rows_with}
-use Rattle.sap_chart.specs.code.Drawing.{IsNextDrawn, IsDeniedAt, drawn_text, threads_in}
+use Rattle.sap_chart.specs.code.Drawing.{IsNextDrawn, drawn_text, threads_in}
 use Rattle.sap_chart.specs.declared.chart.Drawing.{Drawing}
 use Rattle.sap_chart.proofs.LegalDrawn.{legal_too}
 use Rattle.sap_chart.proofs.Columns.{IsDrawing, no_drawing, next_drawing, all_drawing}

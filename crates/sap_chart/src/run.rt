@@ -7,10 +7,10 @@ ghost use Rattle.sap_lines.specs.declared.fault.PFault.{PFault as Fault};
 ghost use Rattle.sap_process.specs.Proc.{proc};
 ghost use Rattle.sap_process.specs.Ready.{IsReady};
 ghost use Rattle.sap_terms.specs.Signature.{HoldsBuiltins};
-ghost use Rattle.sap_teller.specs.Telling.{IsFirstRefusedLine};
+ghost use Rattle.sap_teller.specs.Telling.{IsDeniedAt, IsFirstRefusedLine};
 ghost use Rattle.sap_teller.specs.declared.told_run.Untold.TheVariants as untold;
 ghost use Rattle.sap_chart.specs.Chart.{IsCharted};
-ghost use Rattle.sap_chart.specs.code.Drawing.{IsDeniedAt, IsNextDrawn};
+ghost use Rattle.sap_chart.specs.code.Drawing.{IsNextDrawn};
 
 use crate::chart::Drawing;
 use crate::figure::figure_of;

@@ -1,9 +1,7 @@
 -- How far a chart is drawn.
 use Rattle.std.specs.Prelude.{◌≡◌, ◌+◌, ℕ, codes, List, [], ◌++◌, fold, length, map, Option, Some, None, slice_get}
-use Rattle.sap_calc.specs.Running.{Running, IsDenied}
+use Rattle.sap_calc.specs.Running.{Running}
 use Rattle.sap_deduce.specs.Entries.{terms_of}
-use Rattle.sap_lines.specs.declared.fault.PFault.{PFault}
-use Rattle.sap_lines.specs.declared.fault.PFault.TheVariants.{Mem}
 use Rattle.sap_runs.specs.declared.process_step.PStep.{PStep}
 use Rattle.sap_terms.specs.Trace.{shown}
 use Rattle.sap_terms.specs.declared.fact.Fact.{Fact}
@@ -38,9 +36,3 @@ pub record IsNextDrawn (y z : Running) (a b : Along) (d e : Drawing) (step : PSt
   pub body : e.body ≡ d.body ++ rows_text e.lifelines.entries d.rows (rows_with (a.lines + 1) [] (new_entry (terms_of y.known) (terms_of z.known)) told apart (figure_of step))
   pub rows : e.rows ≡ d.rows + length (rows_with (a.lines + 1) [] (new_entry (terms_of y.known) (terms_of z.known)) told apart (figure_of step))
   pub trace : e.trace ≡ d.trace ++ shown label
-
--- the line with this number is refused for this cause, which isn't want of memory
-pub record IsDeniedAt (r : Running) (step : PStep) (number n : ℕ) (fault : PFault) : Type 0 where
-  pub same : n ≡ number
-  pub denied : IsDenied r step fault
-  pub cause : ¬ (fault ≡ Mem)

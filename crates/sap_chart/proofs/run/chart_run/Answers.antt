@@ -6,8 +6,9 @@ use Rattle.sap_lines.specs.Answers.{MatchesExactly}
 use Rattle.sap_process.specs.Proc.{proc}
 use Rattle.sap_runs.specs.declared.process_step.PStep.{PStep}
 use Rattle.sap_terms.proofs.PlainLaws.Lists.{take_got}
+use Rattle.sap_teller.specs.Telling.{IsDeniedAt}
 use Rattle.sap_teller.specs.declared.told_run.Untold.TheVariants.{Line}
-use Rattle.sap_chart.specs.code.Drawing.{IsDeniedAt, IsNextDrawn}
+use Rattle.sap_chart.specs.code.Drawing.{IsNextDrawn}
 use Rattle.sap_chart.proofs.DrawnRuns.{IsDrawnSoFar, none_drawn, more_drawn, drawn_exactly, all_charted, first_refused, take_all}
 use Rattle.sap_chart.proofs.run.chart_run.Goals as goal
 
