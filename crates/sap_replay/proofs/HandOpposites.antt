@@ -2,11 +2,10 @@
 use Rattle.std.proofs.Common.{◌≡◌, ◌<◌, ◌≤◌, lit≤, lit<, ℕ, zero, suc, List, [], ◌∷◌, ◌++◌, length, Result, Ok, refl, sym, ap, subst, ◌∙◌, arith, length-append}
 use Rattle.std.proofs.lemmas.List.{length-map}
 use Rattle.std.proofs.lemmas.List.Elements.{All-cons, All-nil, All-contains}
-use Rattle.std.specs.Prelude.{◌↔◌, codes, map, Contains, All}
+use Rattle.std.specs.Prelude.{◌↔◌, codes, map, Contains}
 use Rattle.sap_back.specs.Converted as back
-use Rattle.sap_back.specs.LinesFor.{AreProcessLinesForAll, no_lines, more, writes}
+use Rattle.sap_back.specs.LinesFor.{no_lines, more, writes}
 use Rattle.sap_process_lines.specs.Tables.{first_process_tables, enters, with_known}
-use Rattle.sap_formula.specs.Truth.{facts_at}
 use Rattle.sap_gen.specs.Kept.{file_theory}
 use Rattle.sap_lines.specs.Lines as lines_of
 use Rattle.sap_lines.specs.Runs as process_runs

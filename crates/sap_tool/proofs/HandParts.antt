@@ -1,9 +1,9 @@
 -- Calls by hand that put a first part of a text on out: how many puts there were, and which bytes they can have been.
-use Rattle.std.proofs.Common.{◌≡◌, ◌<◌, ◌≤◌, ◌+◌, ◌*◌, ◌-◌, ◌^◌, min, ℕ, zero, suc, List, [], ◌∷◌, length, take, Option, Some, refl, sym, ap, subst, ◌∙◌, arith, lit<}
+use Rattle.std.proofs.Common.{◌≡◌, ◌<◌, ◌≤◌, ◌+◌, ◌*◌, ◌-◌, ◌^◌, min, ℕ, zero, suc, List, [], ◌∷◌, length, take, Option, Some, refl, ap, subst, ◌∙◌, arith, lit<}
 use Rattle.std.proofs.lemmas.List.{length-take}
 use Rattle.std.proofs.lemmas.Grind.{div_ceil_times}
 use Rattle.std.specs.Prelude.{codes}
-use Rattle.sap_outside.specs.Outside.{more, one_more, piece_bytes}
+use Rattle.sap_outside.specs.Outside.{more, one_more}
 use Rattle.sap_outside.specs.Pieces.{pieces, GainedPart}
 use Rattle.sap_outside.specs.Requests.{Request}
 use Rattle.sap_outside.specs.Stream.{Stream}

@@ -1,5 +1,5 @@
 -- Calls by hand that give a run as JSON: the run of one line, how it is read, and what is given.
-use Rattle.std.proofs.Common.{◌≡◌, ◌≢◌, ◌≤◌, ◌<◌, ◌+◌, ℕ, suc, List, [], ◌∷◌, ◌++◌, length, replicate, Option, Some, Result, Ok, Err, refl, sym, ap, subst, ◌∙◌, inl, inr, ◌⊎◌, arith, lit<, lit≤, length-append}
+use Rattle.std.proofs.Common.{◌≡◌, ◌≢◌, ◌≤◌, ◌<◌, ◌+◌, ℕ, List, [], ◌∷◌, ◌++◌, length, replicate, Option, Some, Result, Ok, Err, refl, sym, ap, subst, ◌∙◌, inl, inr, ◌⊎◌, arith, lit<, lit≤, length-append}
 use Rattle.std.proofs.lemmas.List.{length-replicate, append-nil}
 use Rattle.std.proofs.lemmas.List.Elements.{All-nil, All-cons, All-head}
 use Rattle.std.specs.Fmt.{digits}
@@ -9,7 +9,7 @@ use Rattle.std.specs.Prelude.{codes, All, IsSomeAnd}
 use Rattle.sap_json.specs.Written.{json_text}
 use Rattle.sap_outside.specs.Outside.{Files}
 use Rattle.sap_outside.specs.Pieces.{pieces}
-use Rattle.sap_outside.specs.Requests.{Request, begin, next, for_run}
+use Rattle.sap_outside.specs.Requests.{Request, next, for_run}
 use Rattle.sap_outside.specs.RunPieces.{most_run_bytes, IsReadUp, ArePieces, WasRead, IsRunAnswer, is_run}
 use Rattle.sap_outside.specs.Stream.{Gained}
 use Rattle.sap_replay.specs.JsonRuns.{IsJsonOf}

@@ -1,11 +1,11 @@
-use Rattle.std.proofs.Common.{◌≡◌, ◌<◌, ◌≤◌, ℕ, List, [], ◌∷◌, refl, inl, inr, ◌⊎◌, arith}
+use Rattle.std.proofs.Common.{◌≡◌, ◌<◌, ◌≤◌, ℕ, List, [], refl, inl, inr, ◌⊎◌, arith}
 use Rattle.std.specs.Prelude.{codes}
 use Rattle.sap_outside.specs.Pieces.{pieces}
 use Rattle.sap_outside.specs.Stream.{Gained}
 use Rattle.sap_pages.specs.Texts.{version_text}
 use Rattle.sap_replay.specs.declared.way.Way.TheVariants.{Plain}
 use Rattle.sap_run_texts.specs.declared.run.Run.TheVariants as run
-use Rattle.sap_tool.specs.Commands.{compile, explain, to_json, alone, run_alone}
+use Rattle.sap_tool.specs.Commands.{explain, to_json, alone, run_alone}
 use Rattle.sap_tool.specs.PromisesExamples.{run_bytes, got}
 use Rattle.sap_tool.proofs.HandCalls.{version_told, x_unknown}
 use Rattle.sap_tool.proofs.HandRuns.{one_line, line_is_read, run_is_answered}

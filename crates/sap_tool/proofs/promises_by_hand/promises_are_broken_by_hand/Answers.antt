@@ -1,4 +1,4 @@
-use Rattle.std.proofs.Common.{◌≡◌, ◌<◌, ◌≤◌, ◌+◌, ℕ, zero, suc, List, [], ◌∷◌, ◌++◌, take, length, Option, None, Some, refl, sym, ap, subst, ◌∙◌, inl, inr, ◌⊎◌, arith, length-append}
+use Rattle.std.proofs.Common.{◌≡◌, ◌≤◌, ◌+◌, ℕ, List, [], ◌∷◌, ◌++◌, take, length, Option, None, Some, refl, sym, ap, subst, ◌∙◌, inl, inr, ◌⊎◌, arith, length-append}
 use Rattle.std.specs.FinMap as files
 use Rattle.std.specs.Prelude.{codes}
 use Rattle.sap_outside.specs.Pieces.{pieces}
@@ -11,7 +11,7 @@ use Rattle.sap_replay.specs.declared.way.Way.TheVariants.{Plain}
 use Rattle.sap_replay.specs.declared.task.Task.TheVariants.{Judge}
 use Rattle.sap_tool.specs.Commands.{Command, compile, replay, to_json, Input, alone, and_run, run_alone, spelled, AcceptsFile, IsUnknown}
 use Rattle.sap_tool.specs.ToldAtOnce.{IsToldAtOnce}
-use Rattle.sap_answer.specs.Answer.{Answer, gives, tells, Part, Broken, Starved, CutLast, IsLast, complete, cut, read_fault_text, write_fault_text, memory_text}
+use Rattle.sap_answer.specs.Answer.{Answer, gives, tells, Part, Starved, CutLast, IsLast, complete, cut, read_fault_text, write_fault_text, memory_text}
 use Rattle.sap_tool.specs.Answers.{IsAnswer, Fetched, refused, run_refused, to_input, usage, unread, unread_run, FailedOnFile, FailedOnRun, IsRunNext, WasRunGivenUp, WasRunRead, IsBegun, asked_nothing, asked_file, asked_run, asked_both, for_file}
 use Rattle.sap_tool.specs.Promises as promised
 use Rattle.sap_tool.specs.PromisesExamples.{asking, telling, compile_words, fetches, version_words, json_words, judge_words, unknown_words, run_json, got, failed, untouched}
