@@ -78,15 +78,7 @@ named_by (formula.Reserved x) = Some x
 named_by (formula.UnboundVar x) = Some x
 named_by (formula.Unguarded x) = Some x
 
--- the first word of these is this name in an item of functions, or a name in an item of builtins, which begins with those
-abbrev pub declares : List ℕ → (here item : List Word) → Bool
-declares x ws is = (starts (codes "functions") is && names x ws)
-    || (starts (codes "builtins") is && is_some (name_at ws))
-
--- the first word of these is this name in a definition, which begins with those; in a definition or the file's process
-abbrev pub is_defined : List ℕ → (here item : List Word) → Bool
-is_defined x ws is = starts (codes "let") is && names x ws
-
+-- the first word of these is this name in a definition or the file's process, which begins with those
 abbrev pub is_used : List ℕ → (here item : List Word) → Bool
 is_used x ws is = (starts (codes "process") is || starts (codes "let") is) && names x ws
 
@@ -100,8 +92,8 @@ speaks NoProcess ws is u = false
 speaks (TwoProcesses n) ws is u = false
 speaks (UnknownProcess x) ws is u = false
 speaks (DuplicateName x) ws is u = false
-speaks (FunctionClash x) ws is u = is_none u && declares x ws is
-speaks (Parameters x) ws is u = is_none u && is_defined x ws is
+speaks (FunctionClash x) ws is u = false
+speaks (Parameters x) ws is u = false
 speaks (Arguments x) ws is u = is_none u && is_used x ws is
 speaks TooMany ws is u = begins_process u is
 speaks TooDeep ws is u = begins_process u is
@@ -111,8 +103,8 @@ speaks (Ill w path) ws is u = begins_process u is && flaw_fits w ws
 speaks (Lock f) ws is u = begins_process u is && lock_fits f ws
 speaks (Formula y f) ws is u = is_none u && begins_statement y is && is_named (named_by f) ws
 
--- the word is one of which the cause can speak, in the file's process, in a definition whose name is used where it is told, in the
--- restriction or lemma of the cause, or in a declaration
+-- the word is one of which the cause can speak, in the file's process, in a definition whose name is used where it is told, or in the
+-- restriction or lemma of the cause
 pub record IsWordOf (z : List ℕ) (ts : List Token) (e : ReadFault) (f : Found) : Type 0 where
   pub item : ℕ
   pub stands : StandsIn z ts item f.word

@@ -2,7 +2,7 @@
 ghost use Rattle.std.specs.Prelude.{◌≡◌, ◌↔◌, IsTrue, is_some, option_map, drop, List, ℕ};
 ghost use Rattle.sap_grammar.specs.Words.{words_of};
 ghost use Rattle.sap_grammar.specs.Reading.{name_at};
-ghost use Rattle.sap_spot.specs.Found.{IsWordOf, begins_body, begins_definition, begins_process, declares, flaw_fits, is_defined, is_named, is_used, lock_fits, named_by, speaks};
+ghost use Rattle.sap_spot.specs.Found.{IsWordOf, begins_body, begins_definition, begins_process, flaw_fits, is_named, is_used, lock_fits, named_by, speaks};
 
 use crate::items::{begins_definition, begins_statement, has_name, item_of};
 use sap_formula::FormulaFault;
@@ -65,13 +65,6 @@ fn is_named_by(bytes: &[u8], here: &[Token], fault: &FormulaFault) -> bool
     }
 }
 
-fn is_declared(bytes: &[u8], here: &[Token], item: &[Token], name: &[u8]) -> bool
-    ensures { result ≡ declares name.now (words_of bytes.now here.now) (words_of bytes.now item.now) }
-{
-    (starts(bytes, item, "functions") && has_name(bytes, here, name))
-        || (starts(bytes, item, "builtins") && name_at(bytes, here).is_some())
-}
-
 fn begins_body(
     bytes: &[u8],
     tokens: &[Token],
@@ -88,14 +81,7 @@ fn begins_body(
     }
 }
 
-// Whether the word here is this name, in a definition.
-fn is_defined(bytes: &[u8], here: &[Token], item: &[Token], name: &[u8]) -> bool
-    ensures { result ≡ is_defined name.now (words_of bytes.now here.now) (words_of bytes.now item.now) }
-{
-    starts(bytes, item, "let") && has_name(bytes, here, name)
-}
-
-// The same in a definition or the file's process.
+// Whether the word here is this name, in a definition or the file's process.
 fn is_used(bytes: &[u8], here: &[Token], item: &[Token], name: &[u8]) -> bool
     ensures { result ≡ is_used name.now (words_of bytes.now here.now) (words_of bytes.now item.now) }
 {
@@ -110,12 +96,6 @@ fn speaks(bytes: &[u8], tokens: &[Token], fault: &ReadFault, found: Found, item:
 {
     let here = beyond(found.word, tokens);
     match fault {
-        ReadFault::FunctionClash { name } => {
-            found.used.is_none() && is_declared(bytes, here, item, name.as_bytes())
-        }
-        ReadFault::Parameters { name } => {
-            found.used.is_none() && is_defined(bytes, here, item, name.as_bytes())
-        }
         ReadFault::Arguments { name } | ReadFault::Large { name } => {
             found.used.is_none() && is_used(bytes, here, item, name.as_bytes())
         }

@@ -49,14 +49,6 @@ pub fn words_by_hand()
         × (speaks (faulty (formula.Destructor (codes "x"))) (named (codes "y")) (lemma_of (codes "l")) None ≡ false)
         × (speaks (faulty (formula.Reserved (codes "x"))) (named (codes "y")) (lemma_of (codes "l")) None ≡ false)
         × (speaks (faulty (formula.Unguarded (codes "x"))) (named (codes "y")) (lemma_of (codes "l")) None ≡ false) }
-    ensures declarations { (speaks (FunctionClash (codes "f")) (named (codes "f")) (word (codes "functions")) None ≡ true)
-        × (speaks (FunctionClash (codes "f")) (named (codes "g")) (word (codes "builtins")) None ≡ true) }
-    ensures no_declarations { (speaks (FunctionClash (codes "f")) (named (codes "g")) (word (codes "functions")) None ≡ false)
-        × (speaks (FunctionClash (codes "f")) (word (codes ":")) (word (codes "builtins")) None ≡ false)
-        × (speaks (FunctionClash (codes "f")) (named (codes "f")) (word (codes "process")) None ≡ false) }
-    ensures parameters { (speaks (Parameters (codes "x")) (named (codes "x")) (defines (codes "P")) None ≡ true)
-        × (speaks (Parameters (codes "x")) (named (codes "y")) (defines (codes "P")) None ≡ false)
-        × (speaks (Parameters (codes "x")) (named (codes "x")) (word (codes "process")) None ≡ false) }
     ensures arguments { (speaks (Arguments (codes "P")) (named (codes "P")) (word (codes "process")) None ≡ true)
         × (speaks (Arguments (codes "P")) (named (codes "P")) (defines (codes "Q")) None ≡ true)
         × (speaks (Large (codes "P")) (named (codes "P")) (word (codes "process")) None ≡ true)
@@ -72,7 +64,9 @@ pub fn words_by_hand()
     ensures silent { (speaks NoProcess (word (codes "!")) (word (codes "process")) None ≡ false)
         × (speaks (Syntax 1) (word (codes "!")) (word (codes "process")) None ≡ false)
         × (speaks (UnknownProcess (codes "P")) (named (codes "P")) (word (codes "process")) None ≡ false)
-        × (speaks (DuplicateName (codes "P")) (named (codes "P")) (defines (codes "P")) None ≡ false) }
+        × (speaks (DuplicateName (codes "P")) (named (codes "P")) (defines (codes "P")) None ≡ false)
+        × (speaks (Parameters (codes "x")) (named (codes "x")) (defines (codes "P")) None ≡ false)
+        × (speaks (FunctionClash (codes "f")) (named (codes "f")) (word (codes "functions")) None ≡ false) }
     ensures stands { StandsIn two_items two_items_tokens 0 3 × StandsIn two_items two_items_tokens 4 6 }
     ensures not_there { (StandsIn two_items two_items_tokens 0 6 → ⊥) × (StandsIn two_items two_items_tokens 4 4 → ⊥)
         × (StandsIn two_items two_items_tokens 0 4 → ⊥) × (StandsIn two_items two_items_tokens 1 3 → ⊥)

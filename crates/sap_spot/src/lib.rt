@@ -2,7 +2,6 @@
 #![tactic(auto)]
 
 mod clash;
-mod declarations;
 mod descent;
 mod flaws;
 mod formulas;

@@ -2,13 +2,12 @@
 ghost use Rattle.std.specs.Prelude.{IfOk, IfSome};
 ghost use Rattle.sap_spot.specs.Found.{IsWordOf};
 
-use crate::declarations::clashing_declaration;
 use crate::descent::{found_at, found_in};
 use crate::formulas::faulty_word;
 use crate::found::{Found, can_speak_of};
 use crate::layout::{Layout, lay_out};
 use crate::preorder::first_beyond;
-use crate::uses::{longest_use, second_parameter, wrong_count};
+use crate::uses::{longest_use, wrong_count};
 use crate::words::Words;
 use sap_grammar::read_declarations;
 use sap_locks::LockFault;
@@ -54,8 +53,6 @@ fn in_process(bare: &Words, fault: &ReadFault) -> Result<Option<Found>, Mem> {
 // The word, which nothing is said of yet.
 fn sought(words: &Words, fault: &ReadFault) -> Result<Option<Found>, Mem> {
     match fault {
-        ReadFault::FunctionClash { .. } => Ok(alone(clashing_declaration(words)?)),
-        ReadFault::Parameters { name } => Ok(alone(second_parameter(words, name.as_bytes()))),
         ReadFault::Formula { name, fault } => Ok(alone(faulty_word(words, name, fault)?)),
         _ => in_process(words, fault),
     }
@@ -99,7 +96,7 @@ fn spoken_of(
 
 /// The word of which the cause speaks for which a file of these tokens is refused: of a flaw of its process the variable, the symbol
 /// or the fact that has it, where it is written; of a lock the unlock, or the sign of the parallel or the replication; of a limit the
-/// first word beyond; the function, the fact or the variable of a declaration or a formula. `None` of other causes, and where no such
+/// first word beyond; the function, the fact or the variable of a formula. `None` of other causes, and where no such
 /// word is found. The time is linear in the tokens, but for names, which are looked up. Want of memory is the only error.
 pub fn word_of(
     alloc: Global,

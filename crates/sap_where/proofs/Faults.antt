@@ -1,5 +1,5 @@
--- A fault of bytes stands in them; a header that is refused isn't there.
-use Rattle.std.proofs.Common.{◌≡◌, ◌≤◌, ◌<◌, ◌+◌, ℕ, suc, List, [], ◌∷◌, ◌++◌, length, refl, arith, ap, sym, subst, Some, None}
+-- A fault of bytes stands in them; a header that is refused isn't there; a parameter for which a file is refused stands twice, and a declaration clashes.
+use Rattle.std.proofs.Common.{◌≡◌, ◌≤◌, ◌<◌, ◌+◌, ℕ, suc, List, [], ◌∷◌, ◌++◌, length, refl, arith, ap, sym, subst, ◌∙◌, Some, None, ◌⊎◌, inl, inr, ⊎_elim}
 use Rattle.std.specs.Prelude.{Result, Ok, Err, codes, ⊤, Bool, true, false, Option, IfSome, MatchOption, option_map, if◌then◌else◌}
 use Rattle.std.proofs.lemmas.Grind.{common_steps}
 use Rattle.sap_text.specs.declared.fault.Lex.{Lex}
@@ -13,17 +13,24 @@ use Rattle.sap_locks.specs.Annotation.{without, over}
 use Rattle.sap_statements.specs.declared.statement.Statement.{Statement}
 use Rattle.sap_terms.specs.declared.limits.TheConstants.{MOST_FILE_NAME_BYTES}
 use Rattle.sap_terms.specs.Signature.{pairs_alone}
+use Rattle.sap_grammar.specs.Declarations.{Declaration}
 use Rattle.sap_grammar.specs.Signatures.{clash_from}
-use Rattle.sap_read.specs.Item.{Body, bodies, declarations, statements}
+use Rattle.sap_read.specs.Item.{Body, Standing, bodies, declarations, signature_of, statements}
 use Rattle.sap_uses.specs.declared.fault.MacroFault.{MacroFault}
 use Rattle.sap_uses.specs.declared.fault.MacroFault.TheVariants as uses
 use Rattle.sap_read.specs.Causes.{causes, fault_of_uses, first_of}
-use Rattle.sap_read.specs.Files.{AreTokens, FileContent, IsRead, no_tokens, no_header, no_item, refused, unexpanded, ill, locked, unchecked, accepted}
+use Rattle.sap_read.specs.FileProcess.{IsUnexpanded}
+use Rattle.sap_read.specs.ItemGrammar.{AreItems}
+use Rattle.sap_read.specs.Files.{AreTokens, FileContent, IsParted, IsRead, no_tokens, no_header, no_item, refused, unexpanded, ill, locked, unchecked, accepted}
 use Rattle.sap_read.specs.declared.fault.ReadFault.{ReadFault}
 use Rattle.sap_read.specs.declared.fault.ReadFault.TheVariants.{Mem, Lex as LexFault, Header, Syntax, NoProcess, TwoProcesses, UnknownProcess, DuplicateName, FunctionClash, Parameters, Arguments, TooMany, TooDeep, Large, Flawed, Ill, Lock, Formula}
 use Rattle.sap_where.specs.declared.told.Told.{Told}
 use Rattle.sap_where.specs.Told.{IsTold, at_its_place}
-use Rattle.sap_where.specs.Where.{HasPlace, StartsFile, at_byte, bytes_have, header_has, offset_of, one_byte}
+use Rattle.sap_where.specs.Parameters.{IsParameter}
+use Rattle.sap_where.specs.Where.{HasPlace, HoldsOnce, StartsFile, at_byte, bytes_have, declarations_have, header_has, offset_of, one_byte, parameters_have}
+use Rattle.sap_where.specs.FileDeclarations.{declared_before}
+use Rattle.sap_where.proofs.DeclaredFiles.{file_declares}
+use Rattle.sap_where.proofs.ParameterFiles.{HasTwo, file_twice}
 
 -- the fault names an offset before this one
 abbrev pub NamesBefore : Lex → ℕ → Type 0
@@ -115,7 +122,7 @@ header_words z (t ∷ u ∷ v ∷ ts) h =
       },
     )
 
--- neither a fault of bytes nor of a header
+-- neither a fault of bytes nor of a header nor of a parameter nor of a declaration
 abbrev is_later : ReadFault → Bool
 is_later Mem = true
 is_later (LexFault f) = false
@@ -125,8 +132,8 @@ is_later NoProcess = true
 is_later (TwoProcesses n) = true
 is_later (UnknownProcess x) = true
 is_later (DuplicateName x) = true
-is_later (FunctionClash x) = true
-is_later (Parameters x) = true
+is_later (FunctionClash x) = false
+is_later (Parameters x) = false
 is_later (Arguments x) = true
 is_later TooMany = true
 is_later TooDeep = true
@@ -136,47 +143,55 @@ is_later (Ill w p) = true
 is_later (Lock f) = true
 is_later (Formula x f) = true
 
+-- such a cause, or a clash that is told
+abbrev CanBe : Option (List ℕ) → ReadFault → Type 0
+CanBe o e = (is_later e ≡ true) ⊎ ((x : List ℕ) × (e ≡ FunctionClash x) × (o ≡ Some x))
+
 -- so of each that there is
-abbrev IsLater : Option ReadFault → Type 0
-IsLater None = ⊤
-IsLater (Some e) = is_later e ≡ true
+abbrev IsLater : Option (List ℕ) → Option ReadFault → Type 0
+IsLater o None = ⊤
+IsLater o (Some e) = CanBe o e
 
-abbrev AreLater : List (Option ReadFault) → Type 0
-AreLater [] = ⊤
-AreLater (o ∷ os) = IsLater o × AreLater os
+abbrev AreLater : Option (List ℕ) → List (Option ReadFault) → Type 0
+AreLater o [] = ⊤
+AreLater o (p ∷ ps) = IsLater o p × AreLater o ps
 
-first_later : (os : List (Option ReadFault)) → AreLater os → IsLater (first_of os)
-first_later [] h = tt
-first_later (None ∷ os) h = first_later os h.1
-first_later (Some e ∷ os) h = h.0
+first_later : (o : Option (List ℕ)) (ps : List (Option ReadFault)) → AreLater o ps → IsLater o (first_of ps)
+first_later o [] h = tt
+first_later o (None ∷ ps) h = first_later o ps h.1
+first_later o (Some e ∷ ps) h = h.0
 
-later_if : (b : Bool) (e : ReadFault) → is_later e ≡ true → IsLater (if b then Some e else None)
-later_if true e h = h
-later_if false e h = tt
+later_if : (o : Option (List ℕ)) (b : Bool) (e : ReadFault) → is_later e ≡ true → IsLater o (if b then Some e else None)
+later_if o true e h = inl h
+later_if o false e h = tt
 
-later_map : {A : Type 0} (f : A → ReadFault) (o : Option A) → ((x : A) → is_later (f x) ≡ true) → IsLater (option_map f o)
-later_map f None h = tt
-later_map f (Some x) h = h x
+later_map : {A : Type 0} (o : Option (List ℕ)) (f : A → ReadFault) (p : Option A) → ((x : A) → is_later (f x) ≡ true) → IsLater o (option_map f p)
+later_map o f None h = tt
+later_map o f (Some x) h = inl (h x)
 
-causes_later : (bs : List Body) (ss : List Statement) (o : Option (List ℕ)) → AreLater (causes bs ss o)
+later_clash : (o : Option (List ℕ)) → IsLater o (option_map FunctionClash o)
+later_clash None = tt
+later_clash (Some x) = inr (x, refl, refl)
+
+causes_later : (bs : List Body) (ss : List Statement) (o : Option (List ℕ)) → AreLater o (causes bs ss o)
 causes_later bs ss o = (
-  later_if _ NoProcess refl,
+  later_if o _ NoProcess refl,
   (
-    later_map (λ (b : Body). TwoProcesses b.line) _ (λ b. refl),
+    later_map o (λ (b : Body). TwoProcesses b.line) _ (λ b. refl),
     (
-      later_map UnknownProcess _ (λ x. refl),
+      later_map o UnknownProcess _ (λ x. refl),
       (
-        later_map DuplicateName _ (λ x. refl),
+        later_map o DuplicateName _ (λ x. refl),
         (
-          later_map DuplicateName _ (λ x. refl),
-          (later_map FunctionClash _ (λ x. refl), tt),
+          later_map o DuplicateName _ (λ x. refl),
+          (later_clash o, tt),
         ),
       ),
     ),
   ),
 )
 
--- what a refusal for a fault of bytes, or for a header, says of the bytes
+-- what a refusal for a fault of bytes, for a header, for a parameter or for a declaration says of the bytes
 abbrev Tells : List ℕ → Result FileContent ReadFault → Type 0
 Tells z (Ok f) = ⊤
 Tells z (Err Mem) = ⊤
@@ -187,8 +202,8 @@ Tells z (Err NoProcess) = ⊤
 Tells z (Err (TwoProcesses n)) = ⊤
 Tells z (Err (UnknownProcess x)) = ⊤
 Tells z (Err (DuplicateName x)) = ⊤
-Tells z (Err (FunctionClash x)) = ⊤
-Tells z (Err (Parameters x)) = ⊤
+Tells z (Err (FunctionClash x)) = (ts : List Token) × AreTokens z ts × (clash_from pairs_alone (declared_before z ts (length ts)) ≡ Some x)
+Tells z (Err (Parameters x)) = (ts : List Token) × AreTokens z ts × HasTwo z ts x
 Tells z (Err (Arguments x)) = ⊤
 Tells z (Err TooMany) = ⊤
 Tells z (Err TooDeep) = ⊤
@@ -207,8 +222,8 @@ tells_later z NoProcess h = tt
 tells_later z (TwoProcesses n) h = tt
 tells_later z (UnknownProcess x) h = tt
 tells_later z (DuplicateName x) h = tt
-tells_later z (FunctionClash x) h = tt
-tells_later z (Parameters x) h = tt
+tells_later z (FunctionClash x) h = absurd (cc)
+tells_later z (Parameters x) h = absurd (cc)
 tells_later z (Arguments x) h = tt
 tells_later z TooMany h = tt
 tells_later z TooDeep h = tt
@@ -218,24 +233,27 @@ tells_later z (Ill w p) h = tt
 tells_later z (Lock f) h = tt
 tells_later z (Formula x f) h = tt
 
-tells_uses : (z : List ℕ) (f : MacroFault) → Tells z (Err (fault_of_uses f))
-tells_uses z uses.Mem = tt
-tells_uses z (uses.Parameters x) = tt
-tells_uses z (uses.Arguments x) = tt
-tells_uses z uses.TooMany = tt
-tells_uses z uses.TooDeep = tt
-tells_uses z (uses.Large x) = tt
-tells_uses z (uses.Flawed x w p) = tt
+tells_uses : {z : List ℕ} {ts : List Token} {x : List ℕ} {cut : List (List Placed)} {is : List Standing} (f : MacroFault) → IsParted z ts x cut
+    → AreItems (signature_of is) cut is → IsUnexpanded (signature_of is) (bodies is) f → Tells z (Err (fault_of_uses f))
+tells_uses uses.Mem p a u = tt
+tells_uses {z = z} {ts = ts} (uses.Parameters x) p a u = (ts, p.tokens, file_twice z ts p a x u.cause.holds)
+tells_uses (uses.Arguments x) p a u = tt
+tells_uses uses.TooMany p a u = tt
+tells_uses uses.TooDeep p a u = tt
+tells_uses (uses.Large x) p a u = tt
+tells_uses (uses.Flawed x w q) p a u = tt
 
 tells : {z : List ℕ} {o : Result FileContent ReadFault} → IsRead z o → Tells z o
 tells (no_tokens l) = l
 tells (no_header {ts = ts} a n) = (ts, a, n)
 tells (no_item p f) = tt
-tells {z = z} (refused {is = is} {e = e} p a c) =
-    let os = causes (bodies is) (statements is) (clash_from pairs_alone (declarations is)) in
-    tells_later z e (subst (λ (o : Option ReadFault). IsLater o) c
-    (first_later os (causes_later (bodies is) (statements is) (clash_from pairs_alone (declarations is)))))
-tells {z = z} (unexpanded {f = f} p a c u) = tells_uses z f
+tells {z = z} (refused {ts = ts} {is = is} {e = e} p a c) =
+    let o = clash_from pairs_alone (declarations is) in
+    let h : IsLater o (Some e) = subst (λ (q : Option ReadFault). IsLater o q) c (first_later o (causes (bodies is) (statements is) o) (causes_later (bodies is) (statements is) o)) in
+    ⊎_elim (λ (later : is_later e ≡ true). tells_later z e later)
+    (λ (clash : (x : List ℕ) × (e ≡ FunctionClash x) × (o ≡ Some x)). subst (λ (f : ReadFault). Tells z (Err f)) (sym clash.1)
+    (ts, p.tokens, ap (λ (ds : List Declaration). clash_from pairs_alone ds) (file_declares z ts p a) ∙ clash.2)) h
+tells (unexpanded {f = f} p a c u) = tells_uses f p a u
 tells (ill p a c q f) = tt
 tells (locked {w = without} p a c q w f) = tt
 tells (locked {w = over} p a c q w f) = tt
@@ -260,12 +278,21 @@ byte_told z f None m r e =
     absurd (omega (arith, le, n.2))
 byte_told z f (Some t) m r e = cc
 
--- a header that is refused has a word that is wrong
-pub header_told : (z : List ℕ) (ts : List Token) (e : ReadFault) (o : Option Told) → ((f : Lex) → e ≡ LexFault f → ⊥)
+-- a header that is refused has a word that is wrong, a parameter stands twice, and a declaration clashes
+pub place_told : (z : List ℕ) (ts : List Token) (e : ReadFault) (o : Option Told) → ((f : Lex) → e ≡ LexFault f → ⊥)
     → ((us : List Token) → AreTokens z us → us ≡ ts) → (e ≡ Header → o ≡ None → StartsFile (words_of z ts))
+    → ((x : List ℕ) → e ≡ Parameters x → o ≡ None → (i : ℕ) → HoldsOnce (IsParameter z ts x i))
+    → ((x : List ℕ) → e ≡ FunctionClash x → o ≡ None → clash_from pairs_alone (declared_before z ts (length ts)) ≡ Some x → ⊥)
     → HasPlace e → IsRead z (Err e) → o ≡ None → ⊥
-header_told z ts e o other only starts (bytes_have f) r none = other f refl
-header_told z ts e o other only starts header_has r none =
+place_told z ts e o other only starts once clash (bytes_have f) r none = other f refl
+place_told z ts e o other only starts once clash (parameters_have x) r none =
+    let t = tells r in
+    let two = subst (λ (us : List Token). HasTwo z us x) (only t.0 t.1) t.2 in
+    once x refl none two.item two.first two.second two.order two.is_first two.is_second
+place_told z ts e o other only starts once clash (declarations_have x) r none =
+    let t = tells r in
+    clash x refl none (subst (λ (us : List Token). clash_from pairs_alone (declared_before z us (length us)) ≡ Some x) (only t.0 t.1) t.2)
+place_told z ts e o other only starts once clash header_has r none =
     let t = tells r in
     let same = only t.0 t.1 in
     let h = header_words z ts (starts refl none) in
@@ -275,3 +302,5 @@ header_told z ts e o other only starts header_has r none =
 pub tokens_told : (z : List ℕ) (e : ReadFault) → ((f : Lex) → e ≡ LexFault f → ⊥) → ((us : List Token) → AreTokens z us → ⊥) → HasPlace e → IsRead z (Err e) → ⊥
 tokens_told z e other none (bytes_have f) r = other f refl
 tokens_told z e other none header_has r = let t = tells r in none t.0 t.1
+tokens_told z e other none (parameters_have x) r = let t = tells r in none t.0 t.1
+tokens_told z e other none (declarations_have x) r = let t = tells r in none t.0 t.1

@@ -1,6 +1,15 @@
 pub mod Words
 pub mod Headers
 pub mod Taken
+pub mod Seconds
+pub mod SecondParameter
+pub mod CutWords
+pub mod ParameterFiles
+pub mod Arities
+pub mod Declaring
+pub mod Clashes
+pub mod DeclaredFiles
+pub mod DeclaredByHand
 pub mod Faults
 pub mod Positions
 pub mod OnePlace
@@ -10,3 +19,4 @@ pub mod Pieces
 pub mod ItemPlace
 pub mod NextUse
 pub mod Telling
+pub mod Loose

@@ -5,14 +5,19 @@ use Rattle.sap_text.specs.declared.token.Token.{Token}
 use Rattle.sap_grammar.specs.Words.{words_of}
 use Rattle.sap_read.specs.Files.{AreTokens}
 use Rattle.sap_read.specs.declared.fault.ReadFault.{ReadFault}
-use Rattle.sap_read.specs.declared.fault.ReadFault.TheVariants.{Lex as LexFault, Header, Syntax, TwoProcesses, UnknownProcess, DuplicateName}
+use Rattle.sap_read.specs.declared.fault.ReadFault.TheVariants.{Lex as LexFault, Header, Syntax, TwoProcesses, UnknownProcess, DuplicateName, FunctionClash, Parameters}
 use Rattle.sap_where.proofs.OnePlace.{one_wrong}
 use Rattle.sap_where.specs.declared.find.Beginning.TheVariants.{Process}
 use Rattle.sap_where.specs.declared.place.Stretch.{Stretch}
 use Rattle.sap_expect.specs.FileTable.{FollowsTable}
 use Rattle.sap_where.specs.Pieces.{CanBeOf}
 use Rattle.sap_where.specs.Uses.{IsUse}
-use Rattle.sap_where.specs.Where.{BeginsAt, HoldsOnce, IsSecond, IsTakenAt, IsTakenNowhere, IsWhere, StartsFile, at_byte, at_header, at_item, at_name, at_process, at_use, offset_of, only_statement, second_definition, second_statement}
+use Rattle.sap_terms.specs.Signature.{pairs_alone}
+use Rattle.sap_grammar.specs.Signatures.{clash_from}
+use Rattle.sap_where.specs.FileDeclarations.{IsClashAt, declared_before}
+use Rattle.sap_where.specs.Parameters.{IsParameter}
+use Rattle.sap_where.proofs.Clashes.{none_clashes}
+use Rattle.sap_where.specs.Where.{BeginsAt, HoldsOnce, IsRepeatedAt, IsSecond, IsTakenAt, IsTakenNowhere, IsWhere, StartsFile, at_byte, at_declaration, at_header, at_item, at_name, at_parameter, at_process, at_use, offset_of, only_statement, second_definition, second_statement}
 use Rattle.sap_expect.specs.FirstWrong.{IsFirstWrong}
 
 -- the tokens of the bytes
@@ -55,13 +60,24 @@ pub use_nowhere : (z : List ℕ) (ts : List Token) (x : List ℕ) → AreOnly z 
 use_nowhere z ts x only h s (at_use {ts = us} {k = k} a w e) =
     h k (subst (λ (vs : List Token). IsUse z vs x k) (only us a) w.is)
 
-pub other_nowhere : (z : List ℕ) (e : ReadFault) → ((f : Lex) → e ≡ LexFault f → ⊥) → ((n : ℕ) → e ≡ Syntax n → ⊥) → (e ≡ Header → ⊥) → ((n : ℕ) → e ≡ TwoProcesses n → ⊥) → ((x : List ℕ) → e ≡ UnknownProcess x → ⊥) → ((x : List ℕ) → e ≡ DuplicateName x → ⊥) → (s : Stretch) → IsWhere z e s → ⊥
-other_nowhere z e a n b c u d s (at_byte o lt f) = a _ refl
-other_nowhere z e a n b c u d s (at_item t w g f) = n _ refl
-other_nowhere z e a n b c u d s (at_header t w f) = b refl
-other_nowhere z e a n b c u d s (at_process t w f) = c _ refl
-other_nowhere z e a n b c u d s (at_name t w f) = d _ refl
-other_nowhere z e a n b c u d s (at_use t w f) = u _ refl
+pub parameter_nowhere : (z : List ℕ) (ts : List Token) (x : List ℕ) → AreOnly z ts → ((i : ℕ) → HoldsOnce (IsParameter z ts x i)) → (s : Stretch) → IsWhere z (Parameters x) s → ⊥
+parameter_nowhere z ts x only h s (at_parameter {ts = us} {k = k} a w e) =
+    let v = subst (λ (vs : List Token). IsRepeatedAt z vs x k) (only us a) w in
+    h v.item v.second.first k v.second.before v.second.is_first v.second.is
+
+pub clash_nowhere : (z : List ℕ) (ts : List Token) (x : List ℕ) → AreOnly z ts → (clash_from pairs_alone (declared_before z ts (length ts)) ≡ Some x → ⊥) → (s : Stretch) → IsWhere z (FunctionClash x) s → ⊥
+clash_nowhere z ts x only h s (at_declaration {ts = us} {k = k} a w e) =
+    none_clashes z ts x k h (subst (λ (vs : List Token). IsClashAt z vs x k) (only us a) w)
+
+pub other_nowhere : (z : List ℕ) (e : ReadFault) → ((f : Lex) → e ≡ LexFault f → ⊥) → ((n : ℕ) → e ≡ Syntax n → ⊥) → ((x : List ℕ) → e ≡ FunctionClash x → ⊥) → (e ≡ Header → ⊥) → ((n : ℕ) → e ≡ TwoProcesses n → ⊥) → ((x : List ℕ) → e ≡ UnknownProcess x → ⊥) → ((x : List ℕ) → e ≡ Parameters x → ⊥) → ((x : List ℕ) → e ≡ DuplicateName x → ⊥) → (s : Stretch) → IsWhere z e s → ⊥
+other_nowhere z e a n q b c u p d s (at_byte o lt f) = a _ refl
+other_nowhere z e a n q b c u p d s (at_item t w g f) = n _ refl
+other_nowhere z e a n q b c u p d s (at_header t w f) = b refl
+other_nowhere z e a n q b c u p d s (at_process t w f) = c _ refl
+other_nowhere z e a n q b c u p d s (at_name t w f) = d _ refl
+other_nowhere z e a n q b c u p d s (at_use t w f) = u _ refl
+other_nowhere z e a n q b c u p d s (at_parameter t w f) = p _ refl
+other_nowhere z e a n q b c u p d s (at_declaration t w f) = q _ refl
 
 pub tokens_nowhere : (z : List ℕ) (e : ReadFault) → ((f : Lex) → e ≡ LexFault f → ⊥) → ((us : List Token) → AreTokens z us → ⊥) → (s : Stretch) → IsWhere z e s → ⊥
 tokens_nowhere z e a none s (at_byte o lt f) = a _ refl
@@ -70,3 +86,5 @@ tokens_nowhere z e a none s (at_item t w g f) = none _ t
 tokens_nowhere z e a none s (at_process t w f) = none _ t
 tokens_nowhere z e a none s (at_name t w f) = none _ t
 tokens_nowhere z e a none s (at_use t w f) = none _ t
+tokens_nowhere z e a none s (at_parameter t w f) = none _ t
+tokens_nowhere z e a none s (at_declaration t w f) = none _ t

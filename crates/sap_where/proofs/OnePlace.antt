@@ -9,18 +9,12 @@ use Rattle.sap_where.specs.declared.find.Beginning.TheVariants.{Process}
 use Rattle.sap_where.specs.declared.place.Stretch.{Stretch}
 use Rattle.sap_expect.specs.FileTable.{FollowsTable}
 use Rattle.sap_where.specs.Uses.{IsUse}
-use Rattle.sap_where.specs.Where.{BeginsAt, HoldsOnce, IsFirst, IsSecond, IsTakenAt, IsWhere, StartsFile, at_byte, at_header, at_item, at_name, at_process, at_use, one_byte, only_statement, second_definition, second_statement, stretch_at}
+use Rattle.sap_where.specs.Where.{BeginsAt, HoldsOnce, IsFirst, IsRepeatedAt, IsSecond, IsTakenAt, IsWhere, StartsFile, at_byte, at_declaration, at_header, at_item, at_name, at_parameter, at_process, at_use, one_byte, only_statement, second_definition, second_statement, stretch_at}
 use Rattle.sap_expect.specs.FirstWrong.{GoOn, IsFirstWrong}
-
-not_second : (P : ℕ → Type 0) (j k : ℕ) → IsSecond P j → IsSecond P k → j < k → ⊥
-not_second P j k a b lt =
-    let same = b.no_other j lt a.is in
-    let before = a.before in
-    let also = b.no_other a.first (omega (arith, before, lt)) a.is_first in
-    absurd (omega (arith, same, before, also))
-
-one_second : (P : ℕ → Type 0) (j k : ℕ) → IsSecond P j → IsSecond P k → j ≡ k
-one_second P j k a b = same_number j k (not_second P j k a b) (not_second P k j b a)
+use Rattle.sap_where.specs.FileDeclarations.{IsClashAt}
+use Rattle.sap_where.proofs.Clashes.{one_clash}
+use Rattle.sap_where.proofs.Seconds.{one_second}
+use Rattle.sap_where.proofs.SecondParameter.{one_repeated}
 
 one_first : (P : ℕ → Type 0) (j k : ℕ) → IsFirst P j → IsFirst P k → j ≡ k
 one_first P j k a b = same_number j k (λ lt. b.none_before j lt a.is) (λ lt. a.none_before k lt b.is)
@@ -89,4 +83,14 @@ one_place_is z e s t only (at_use {ts = ts} {x = x} {k = j} a w f) (at_use {ts =
     let same = only ts us a b in
     let v' = subst (λ (us : List Token). IsFirst (IsUse z us x) k) same v in
     let n = one_first (IsUse z ts x) j k w v' in
+    f ∙ (ap (λ (k : ℕ). stretch_at ts k) n ∙ (ap (λ (us : List Token). stretch_at us k) (sym same) ∙ sym g))
+one_place_is z e s t only (at_parameter {ts = ts} {x = x} {k = j} a w f) (at_parameter {ts = us} {k = k} b v g) =
+    let same = only ts us a b in
+    let v' = subst (λ (us : List Token). IsRepeatedAt z us x k) same v in
+    let n = one_repeated z ts x one_second j k w v' in
+    f ∙ (ap (λ (k : ℕ). stretch_at ts k) n ∙ (ap (λ (us : List Token). stretch_at us k) (sym same) ∙ sym g))
+one_place_is z e s t only (at_declaration {ts = ts} {x = x} {k = j} a w f) (at_declaration {ts = us} {k = k} b v g) =
+    let same = only ts us a b in
+    let v' = subst (λ (us : List Token). IsClashAt z us x k) same v in
+    let n = one_clash z ts x j k w v' in
     f ∙ (ap (λ (k : ℕ). stretch_at ts k) n ∙ (ap (λ (us : List Token). stretch_at us k) (sym same) ∙ sym g))

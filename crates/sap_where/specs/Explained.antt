@@ -2,7 +2,7 @@
 use Rattle.std.specs.Prelude.{◌≡◌, ◌-◌, ℕ, codes, decimal, List, [], ◌∷◌, ◌++◌, take, drop, Option, Some, None}
 use Rattle.sap_text.specs.declared.fault.Lex.{Lex as LexFault}
 use Rattle.sap_read.specs.declared.fault.ReadFault.{ReadFault}
-use Rattle.sap_read.specs.declared.fault.ReadFault.TheVariants.{Mem, Lex, Header, Syntax, NoProcess, TwoProcesses, UnknownProcess, DuplicateName}
+use Rattle.sap_read.specs.declared.fault.ReadFault.TheVariants.{Mem, Lex, Header, Syntax, NoProcess, TwoProcesses, UnknownProcess, DuplicateName, FunctionClash, Parameters}
 use Rattle.sap_where.specs.declared.place.Position.{Position}
 use Rattle.sap_where.specs.declared.place.Stretch.{Stretch}
 use Rattle.sap_where.specs.declared.told.Told.{Told}
@@ -46,3 +46,5 @@ pub data IsSettled (z : List ℕ) : ReadFault → Type 0 where
   second_process : (line : ℕ) → IsSettled z (TwoProcesses line)
   unknown_name : (name : List ℕ) → IsSettled z (UnknownProcess name)
   taken_name : (name : List ℕ) → IsSettled z (DuplicateName name)
+  parameter_twice : (name : List ℕ) → IsSettled z (Parameters name)
+  declared_otherwise : (name : List ℕ) → IsSettled z (FunctionClash name)

@@ -1,6 +1,8 @@
 pub mod Positions
 pub mod Pieces
 pub mod Uses
+pub mod Parameters
+pub mod FileDeclarations
 pub mod Where
 pub mod Told
 pub mod PlaceExamples

@@ -1,11 +1,13 @@
 -- Small files, and where in them is what.
 use Rattle.std.specs.Prelude.{ℕ, codes, decimal, List, [], ◌∷◌, ◌++◌}
-use Rattle.sap_text.specs.declared.token.Kind.TheVariants.{Ident, Symbol}
+use Rattle.sap_text.specs.declared.token.Kind.TheVariants.{Ident, Number, Symbol}
 use Rattle.sap_text.specs.declared.token.Token.{Token}
 use Rattle.sap_grammar.specs.Words.{Word, mark, name}
 use Rattle.sap_where.specs.declared.place.Position.{Position}
 use Rattle.sap_where.specs.declared.place.Stretch.{Stretch}
+use Rattle.sap_where.specs.FileDeclarations.{IsClashAt}
 use Rattle.sap_where.specs.Uses.{IsUse}
+use Rattle.sap_where.specs.Where.{IsRepeatedAt}
 
 -- two lines, the second without a line feed
 abbrev pub two_lines : List ℕ
@@ -95,3 +97,44 @@ many_tokens =
 -- token number k of these is Q as a process
 abbrev pub IsQ : ℕ → Type 0
 IsQ k = IsUse many many_tokens (codes "Q") k
+
+-- three definitions: in the first x is a parameter once, in the second three times, in the third twice
+abbrev pub three_headings : List ℕ
+three_headings = codes "let P ( x , y ) = 0 let Q ( x , y , x , x ) = 0 let R ( x , x ) = 0"
+
+abbrev pub digit : (from to : ℕ) → Token
+digit from to = record { kind = Number; from = from; to = to; line = 1 }
+
+abbrev pub three_headings_tokens : List Token
+three_headings_tokens =
+    word 0 3 ∷ word 4 5 ∷ sign 6 7 ∷ word 8 9 ∷ sign 10 11 ∷ word 12 13 ∷ sign 14 15
+    ∷ sign 16 17 ∷ digit 18 19 ∷ word 20 23 ∷ word 24 25 ∷ sign 26 27 ∷ word 28 29
+    ∷ sign 30 31 ∷ word 32 33 ∷ sign 34 35 ∷ word 36 37 ∷ sign 38 39 ∷ word 40 41
+    ∷ sign 42 43 ∷ sign 44 45 ∷ digit 46 47 ∷ word 48 51 ∷ word 52 53 ∷ sign 54 55
+    ∷ word 56 57 ∷ sign 58 59 ∷ word 60 61 ∷ sign 62 63 ∷ sign 64 65 ∷ digit 66 67 ∷ []
+
+-- token number k of these is where x is told to stand twice among parameters
+abbrev pub IsTwice : ℕ → Type 0
+IsTwice k = IsRepeatedAt three_headings three_headings_tokens (codes "x") k
+
+-- declarations: h of two terms, f of one, the same again; hashing, which has h of one; and f of two
+abbrev pub many_declared : List ℕ
+many_declared = codes "functions : h / 2 , f / 1 , f / 1 builtins : hashing functions : f / 2 end"
+
+abbrev pub many_declared_tokens : List Token
+many_declared_tokens =
+    word 0 9 ∷ sign 10 11 ∷ word 12 13 ∷ sign 14 15 ∷ digit 16 17 ∷ sign 18 19 ∷ word 20 21
+    ∷ sign 22 23 ∷ digit 24 25 ∷ sign 26 27 ∷ word 28 29 ∷ sign 30 31 ∷ digit 32 33
+    ∷ word 34 42 ∷ sign 43 44 ∷ word 45 52 ∷ word 53 62 ∷ sign 63 64 ∷ word 65 66
+    ∷ sign 67 68 ∷ digit 69 70 ∷ word 71 74 ∷ []
+
+-- these without the builtins
+abbrev pub few_declared_tokens : List Token
+few_declared_tokens =
+    word 0 9 ∷ sign 10 11 ∷ word 12 13 ∷ sign 14 15 ∷ digit 16 17 ∷ sign 18 19 ∷ word 20 21
+    ∷ sign 22 23 ∷ digit 24 25 ∷ sign 26 27 ∷ word 28 29 ∷ sign 30 31 ∷ digit 32 33
+    ∷ word 53 62 ∷ sign 63 64 ∷ word 65 66 ∷ sign 67 68 ∷ digit 69 70 ∷ word 71 74 ∷ []
+
+-- token number k of these is where this name is told to be declared otherwise
+abbrev pub IsClash : List ℕ → ℕ → Type 0
+IsClash x k = IsClashAt many_declared many_declared_tokens x k

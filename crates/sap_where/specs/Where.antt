@@ -7,13 +7,15 @@ use Rattle.sap_grammar.specs.Words.{Word, mark, name, words_of, starts}
 use Rattle.sap_spot.specs.Found.{begins_definition, begins_statement}
 use Rattle.sap_read.specs.Files.{AreTokens}
 use Rattle.sap_read.specs.declared.fault.ReadFault.{ReadFault}
-use Rattle.sap_read.specs.declared.fault.ReadFault.TheVariants.{Lex as LexFault, Header, Syntax, TwoProcesses, UnknownProcess, DuplicateName}
+use Rattle.sap_read.specs.declared.fault.ReadFault.TheVariants.{Lex as LexFault, Header, Syntax, TwoProcesses, UnknownProcess, DuplicateName, FunctionClash, Parameters}
 use Rattle.sap_where.specs.declared.place.Stretch.{Stretch}
 use Rattle.sap_expect.specs.FileTable.{FollowsTable}
 use Rattle.sap_expect.specs.FirstWrong.{IsFirstWrong}
 use Rattle.sap_where.specs.Pieces.{CanBeOf}
 use Rattle.sap_where.specs.declared.find.Beginning.{Beginning}
 use Rattle.sap_where.specs.declared.find.Beginning.TheVariants.{Process, Definition, Statement}
+use Rattle.sap_where.specs.FileDeclarations.{IsClashAt}
+use Rattle.sap_where.specs.Parameters.{IsParameter}
 use Rattle.sap_where.specs.Uses.{IsUse}
 
 -- the offset that a fault of bytes names
@@ -94,10 +96,17 @@ pub record IsTakenNowhere (z : List ℕ) (ts : List Token) (x : List ℕ) : Type
   pub definitions : HoldsOnce (BeginsAt z ts Definition x)
   pub statements : (i : ℕ) → BeginsAt z ts Statement x i → ⊥
 
+-- token k is the name where it stands a second time among the parameters of a definition, the first that has it twice among them
+pub record IsRepeatedAt (z : List ℕ) (ts : List Token) (x : List ℕ) (k : ℕ) : Type 0 where
+  pub item : ℕ
+  pub second : IsSecond (IsParameter z ts x item) k
+  pub none_before : (i j : ℕ) → i < item → IsSecond (IsParameter z ts x i) j → ⊥
+
 -- the stretch is where this cause stands in the bytes: the byte of a fault of bytes; the word with which what stands before it is no
 -- header's beginning any more; the word with which what stands before it is by the table no file's beginning any more, where the line
 -- that is told is that of the word's piece; `process` where it stands a second time; a name of a process where it is used first; the
--- name that is taken, behind its item's first word
+-- name that is taken, behind its item's first word; a parameter where it stands a second time;
+-- the first word of the first declaration that clashes
 pub data IsWhere (z : List ℕ) : ReadFault → Stretch → Type 0 where
   at_byte : {f : Lex} {at : ℕ} {s : Stretch} → offset_of f ≡ Some at → at < length z
       → s ≡ one_byte at → IsWhere z (LexFault f) s
@@ -113,8 +122,14 @@ pub data IsWhere (z : List ℕ) : ReadFault → Stretch → Type 0 where
       → IsTakenAt z ts x k → s ≡ stretch_at ts (k + 1) → IsWhere z (DuplicateName x) s
   at_use : {ts : List Token} {x : List ℕ} {k : ℕ} {s : Stretch} → AreTokens z ts
       → IsFirst (IsUse z ts x) k → s ≡ stretch_at ts k → IsWhere z (UnknownProcess x) s
+  at_parameter : {ts : List Token} {x : List ℕ} {k : ℕ} {s : Stretch} → AreTokens z ts
+      → IsRepeatedAt z ts x k → s ≡ stretch_at ts k → IsWhere z (Parameters x) s
+  at_declaration : {ts : List Token} {x : List ℕ} {k : ℕ} {s : Stretch} → AreTokens z ts
+      → IsClashAt z ts x k → s ≡ stretch_at ts k → IsWhere z (FunctionClash x) s
 
 -- these causes have a place in each file that is refused for them
 pub data HasPlace : ReadFault → Type 0 where
   bytes_have : (f : Lex) → HasPlace (LexFault f)
   header_has : HasPlace Header
+  parameters_have : (x : List ℕ) → HasPlace (Parameters x)
+  declarations_have : (x : List ℕ) → HasPlace (FunctionClash x)

@@ -1,17 +1,28 @@
 //! Laws of places and of what is told of them, as contracts of functions that do nothing.
-ghost use Rattle.std.specs.Prelude.{◌≡◌, ℕ, List, [], Some, None, codes};
+ghost use Rattle.std.specs.Prelude.{◌≡◌, ◌↔◌, ◌++◌, ◌∷◌, ℕ, List, [], Some, None, codes, drop, length, slice_get};
+ghost use Rattle.sap_terms.specs.Signature.{Sig};
+ghost use Rattle.sap_text.specs.declared.token.Token.{Token};
+ghost use Rattle.sap_grammar.specs.Cut.{Placed};
+ghost use Rattle.sap_grammar.specs.Words.{Word, mark, name, words_of};
+ghost use Rattle.sap_process.specs.declared.flaw.Flaw.TheVariants.{BadFunction};
+ghost use Rattle.sap_read.specs.Files.{AreTokens, IsParted};
+ghost use Rattle.sap_read.specs.Item.{Standing, declarations};
+ghost use Rattle.sap_read.specs.ItemGrammar.{AreItems, HasParameters};
 ghost use Rattle.sap_read.specs.declared.fault.ReadFault.{ReadFault};
-ghost use Rattle.sap_read.specs.declared.fault.ReadFault.TheVariants.{Lex, NoProcess};
+ghost use Rattle.sap_read.specs.declared.fault.ReadFault.TheVariants.{Arguments, Ill, Lex, NoProcess};
 ghost use Rattle.sap_text.specs.declared.fault.Lex.TheVariants.{BadByte};
 ghost use Rattle.sap_where.specs.Where.{IsTakenAt, IsWhere, StartsFile, one_byte, stretch_at};
 ghost use Rattle.sap_expect.specs.FirstWrong.{IsFirstWrong};
 ghost use Rattle.sap_where.specs.Positions.{IsPlaceText, IsPosition, carets, shown, shown_from, shown_to};
-ghost use Rattle.sap_where.specs.PlaceExamples.{IsQ, at, ended_header, endless, endless_tokens, nameless_header, once_tokens, second_byte, second_line, stated, stated_tokens, stretch, three_lines, three_lines_tokens, twice, twice_tokens, two_lines};
+ghost use Rattle.sap_where.specs.PlaceExamples.{IsClash, IsQ, IsTwice, at, ended_header, endless, endless_tokens, few_declared_tokens, many_declared, nameless_header, once_tokens, second_byte, second_line, stated, stated_tokens, stretch, three_lines, three_lines_tokens, twice, twice_tokens, two_lines};
 ghost use Rattle.sap_where.specs.declared.place.Position.{Position};
 ghost use Rattle.sap_where.specs.declared.place.Stretch.{Stretch};
 ghost use Rattle.sap_where.specs.Pieces.{CanBeOf, IsPieceOf};
+ghost use Rattle.sap_where.specs.FileDeclarations.{IsClashAt, declared_before};
+ghost use Rattle.sap_where.specs.Parameters.{IsParameter, parameter_at};
 ghost use Rattle.sap_where.specs.Explained.{IsExplanation, IsSettled, IsUseText};
-ghost use Rattle.sap_where.specs.ExplainedExamples.{first_byte, one_mark, second_use, used_word, uses};
+ghost use Rattle.sap_where.specs.ExplainedExamples.{at_word, first_byte, one_mark, second_use, two_uses, two_uses_tokens, used_word, uses};
+ghost use Rattle.sap_where.specs.Told.{IsTold};
 
 use sap_text::one_answer;
 
@@ -29,8 +40,8 @@ pub fn one_place()
 }
 
 /// A law: small files, where in them is what, and where it isn't: lines and columns, what is shown of a line and of a byte, which word
-/// of a header is the first that is wrong, where a name is defined or stated again, in which piece a word stands, and where a name is
-/// used for a process.
+/// of a header is the first that is wrong, where a name is defined or stated again, in which piece a word stands, where a name is
+/// used for a process, where a parameter stands twice, and where a declaration clashes.
 pub fn places_by_hand()
     ensures lines { IsPosition two_lines 3 (at 2 1) × IsPosition two_lines 2 (at 1 3)
         × IsPosition two_lines 5 (at 2 3) }
@@ -62,6 +73,22 @@ pub fn places_by_hand()
         × (CanBeOf three_lines three_lines_tokens 3 5 → ⊥) }
     ensures uses { IsQ 6 × IsQ 10 × IsQ 28 × IsQ 31 }
     ensures no_uses { (IsQ 3 → ⊥) × (IsQ 14 → ⊥) × (IsQ 25 → ⊥) × (IsQ 35 → ⊥) }
+    ensures parameters { IsTwice 16 × (IsTwice 3 → ⊥) × (IsTwice 12 → ⊥) × (IsTwice 18 → ⊥) × (IsTwice 27 → ⊥) }
+    ensures clashes { IsClash (codes "h") 15
+        × IsClashAt many_declared few_declared_tokens (codes "f") 15 }
+    ensures no_clashes { (IsClash (codes "h") 2 → ⊥) × (IsClash (codes "f") 10 → ⊥) × (IsClash (codes "f") 18 → ⊥) }
+{}
+
+/// A law: the words that are told are those of the grammar. Of a definition that it spells they are its parameters, number by number;
+/// and what the words of a file in it declare are the declarations of its items, in order.
+pub fn by_the_grammar()
+    ensures parameters { (z : List ℕ) (ts : List Token) (i : ℕ) (d : List ℕ) (xs : List (List ℕ))
+        (a b m : List Word) → words_of z (drop i ts) ≡ mark (codes "let") ∷ name d ∷ (a ++ m)
+        → HasParameters xs a b → (x : List ℕ) (n : ℕ)
+        → IsParameter z ts x i n ↔ ((j : ℕ) × (slice_get xs j ≡ Some x) × (n ≡ parameter_at i j)) }
+    ensures declarations { (z : List ℕ) (ts : List Token) (x : List ℕ) (cut : List (List Placed)) (g : Sig)
+        (is : List Standing) → IsParted z ts x cut → AreItems g cut is
+        → declared_before z ts (length ts) ≡ declarations is }
 {}
 
 /// A law: of a cause whose place is defined by the words of the file one text is told.
@@ -74,11 +101,17 @@ pub fn one_explanation()
 }
 
 /// A law: what is told, tried by hand: of a file without a process, which has no place; of a byte that begins no token; of a name that
-/// is used on a second line; and that this isn't left out.
+/// is used on a second line; that this isn't left out; and that of a use, and of a flaw, the one word may be told or the other.
 pub fn explanations_by_hand()
     ensures nowhere { IsExplanation [] NoProcess (codes "Add an item process: and the process.\n") }
     ensures somewhere { IsExplanation one_mark (Lex (BadByte 0)) first_byte }
     ensures used { IsUseText uses (Some used_word) second_use }
     ensures unused { IsUseText uses None [] }
     ensures not_untold { IsUseText uses (Some used_word) [] → ⊥ }
+    ensures either_use { AreTokens two_uses two_uses_tokens
+        → IsTold two_uses (Arguments (codes "P")) (at_word 1)
+        × IsTold two_uses (Arguments (codes "P")) (at_word 2) }
+    ensures either_name { AreTokens two_uses two_uses_tokens
+        → IsTold two_uses (Ill BadFunction []) (at_word 1)
+        × IsTold two_uses (Ill BadFunction []) (at_word 2) }
 {}

@@ -2,10 +2,13 @@
 #![tactic(auto)]
 
 mod advice;
+mod clash;
+mod declarations;
 mod explain;
 mod find;
 mod item_place;
 mod laws;
+mod parameters;
 mod picture;
 mod place;
 mod told;
@@ -15,7 +18,10 @@ mod walk;
 pub use advice::length_advice;
 pub use explain::push_explanation;
 pub use find::Beginning;
-pub use laws::{explanations_by_hand, one_explanation, one_place, one_place_text, places_by_hand};
+pub use laws::{
+    by_the_grammar, explanations_by_hand, one_explanation, one_place, one_place_text,
+    places_by_hand,
+};
 pub use picture::push_place;
 pub use place::{Position, Stretch, position_of};
 pub use told::{Told, place_of};

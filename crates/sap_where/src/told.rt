@@ -5,12 +5,17 @@ ghost use Rattle.sap_text.specs.Spans.{IsWithin};
 ghost use Rattle.sap_text.specs.declared.token.Token.{Token};
 ghost use Rattle.sap_text.specs.declared.fault.Lex.{Lex};
 ghost use Rattle.sap_grammar.specs.Words.{words_of};
-ghost use Rattle.sap_read.specs.declared.fault.ReadFault.TheVariants.{Lex as LexFault, Header, Syntax};
+ghost use Rattle.sap_read.specs.declared.fault.ReadFault.TheVariants.{FunctionClash, Header, Lex as LexFault, Parameters, Syntax};
 ghost use Rattle.sap_read.specs.Files.{AreTokens, IsRead};
+ghost use Rattle.sap_terms.specs.Signature.{pairs_alone};
+ghost use Rattle.sap_grammar.specs.Signatures.{clash_from};
+ghost use Rattle.sap_where.specs.FileDeclarations.{declared_before};
+ghost use Rattle.sap_where.specs.Parameters.{IsParameter};
 ghost use Rattle.sap_where.specs.Told.{IsTold};
-ghost use Rattle.sap_where.specs.Where.{HasPlace, IsWhere, StartsFile, offset_of, one_byte, stretch_at};
+ghost use Rattle.sap_where.specs.Where.{HasPlace, HoldsOnce, IsWhere, StartsFile, offset_of, one_byte, stretch_at};
 ghost use Rattle.sap_where.specs.declared.place.Stretch.{Stretch};
 
+use crate::clash::clash_told;
 use crate::item_place::item_told;
 use crate::place::Stretch;
 use crate::walk::{byte_of, file_tokens, place_in, stretch_at};
@@ -74,12 +79,15 @@ fn place_or_word(
     requires only { (ts : List Token) → AreTokens bytes.now ts → ts ≡ tokens.now }
     requires no_byte { (f : Lex) → fault.now ≡ LexFault f → ⊥ }
     requires no_item { (line : ℕ) → fault.now ≡ Syntax line → ⊥ }
+    requires no_clash { (x : List ℕ) → fault.now ≡ FunctionClash x → ⊥ }
     ensures place { IfOk result (λ o. IfSome o (λ t. IsTold bytes.now fault.now t)) }
     ensures inside { IfOk result (λ o. IfSome o (λ t. t.word.from ≤ length bytes.now)) }
     ensures order { IfOk result (λ o. IfSome o (λ t. IfSome t.used (λ u. u.from ≤ u.to))) }
     ensures used { IfOk result (λ o. IfSome o (λ t. IfSome t.used (λ u. u.to ≤ length bytes.now))) }
     ensures header { IfOk result (λ o. fault.now ≡ Header → o ≡ None
         → StartsFile (words_of bytes.now tokens.now)) }
+    ensures once { IfOk result (λ o. (x : List ℕ) → fault.now ≡ Parameters x → o ≡ None → (i : ℕ)
+        → HoldsOnce (IsParameter bytes.now tokens.now x i)) }
     ensures none { IfOk result (λ o. o ≡ None → (s : Stretch) → IsWhere bytes.now fault.now s → ⊥) }
 {
     match place_in(bytes, tokens, fault) {
@@ -105,10 +113,16 @@ fn told_in(
     ensures used { IfOk result (λ o. IfSome o (λ t. IfSome t.used (λ u. u.to ≤ length bytes.now))) }
     ensures header { IfOk result (λ o. fault.now ≡ Header → o ≡ None
         → StartsFile (words_of bytes.now tokens.now)) }
+    ensures once { IfOk result (λ o. (x : List ℕ) → fault.now ≡ Parameters x → o ≡ None → (i : ℕ)
+        → HoldsOnce (IsParameter bytes.now tokens.now x i)) }
+    ensures clash { IfOk result (λ o. (x : List ℕ) → fault.now ≡ FunctionClash x → o ≡ None
+        → clash_from pairs_alone (declared_before bytes.now tokens.now (length tokens.now))
+        ≡ Some x → ⊥) }
     ensures none { IfOk result (λ o. o ≡ None → (s : Stretch) → IsWhere bytes.now fault.now s → ⊥) }
 {
     match fault {
         ReadFault::Syntax { line } => item_told(alloc, bytes, tokens, *line),
+        ReadFault::FunctionClash { name } => clash_told(alloc, bytes, tokens, name),
         _ => place_or_word(alloc, bytes, tokens, fault),
     }
 }
@@ -128,10 +142,11 @@ fn byte_told(lex: Lex, size: u64) -> Option<Told>
 /// Where in the bytes of a file the cause stands for which they are refused: of a fault of bytes the byte; without a header the
 /// first word that is wrong in one, or the end of the last word; of a piece that is no item the first word that is wrong in the file, by
 /// the table of its words, or the end of the last word; of a second process its `process`; of a name of a process that isn't defined its
-/// first use; of a name that is taken the second definition's name, or that of the second restriction or lemma, or of the only one; of a flaw of the process, a lock, a fault
-/// of a formula, a limit or a declaration that clashes the word that `sap_spot` finds. `None`, where nothing
-/// of this is found in the bytes, and for all other causes. The time is linear in the bytes, but for names, which are looked up. Want
-/// of memory is the only error.
+/// first use; of a name that is taken the second definition's name, or that of the second restriction or lemma, or of the only one; of a
+/// parameter that stands twice the second, in the first definition that has it twice; of a declaration that clashes its first word; of a
+/// flaw of the process, a lock, a fault of a formula or a limit the word that `sap_spot` finds. `None`, where nothing of this is found in
+/// the bytes, and for all other causes. The time is linear in the bytes, but for names, which are looked up. Want of memory is the only
+/// error.
 pub fn place_of(alloc: Global, bytes: &[u8], fault: &ReadFault) -> Result<Option<Told>, Mem>
     ensures place { IfOk result (λ o. IfSome o (λ t. IsTold bytes.now fault.now t)) }
     ensures inside { IfOk result (λ o. IfSome o (λ t. t.word.from ≤ length bytes.now)) }

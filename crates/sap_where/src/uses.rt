@@ -18,13 +18,15 @@ use sap_spot::begins_item;
 use sap_terms::Name;
 use sap_text::Token;
 
-fn stands(bytes: &[u8], tokens: &[Token], mark: &str, k: usize) -> bool
+// Whether this symbol or reserved word stands here.
+pub(crate) fn stands(bytes: &[u8], tokens: &[Token], mark: &str, k: usize) -> bool
     ensures { result ≡ stands bytes.now tokens.now mark.now k }
 {
     starts(bytes, beyond(k, tokens), mark)
 }
 
-fn is_named(bytes: &[u8], tokens: &[Token], k: usize) -> bool
+// Whether a name does.
+pub(crate) fn is_named(bytes: &[u8], tokens: &[Token], k: usize) -> bool
     ensures { result ≡ is_named bytes.now tokens.now k }
 {
     name_at(bytes, beyond(k, tokens)).is_some()

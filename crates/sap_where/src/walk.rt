@@ -6,13 +6,15 @@ ghost use Rattle.sap_text.specs.declared.token.Token.{Token};
 ghost use Rattle.sap_grammar.specs.Words.{starts, words_of};
 ghost use Rattle.sap_grammar.specs.Reading.{name_at};
 ghost use Rattle.sap_read.specs.Files.{AreTokens, IsRead};
-ghost use Rattle.sap_read.specs.declared.fault.ReadFault.TheVariants.{Header, Lex as LexFault, Syntax, UnknownProcess};
+ghost use Rattle.sap_read.specs.declared.fault.ReadFault.TheVariants.{FunctionClash, Header, Lex as LexFault, Parameters, Syntax, UnknownProcess};
 ghost use Rattle.sap_text.specs.declared.fault.Lex.{Lex};
+ghost use Rattle.sap_where.specs.Parameters.{IsParameter};
 ghost use Rattle.sap_where.specs.declared.place.Stretch.{Stretch};
 ghost use Rattle.sap_where.specs.Where.{BeginsAt, HoldsOnce, IsFirst, IsSecond, IsTakenAt, IsTakenNowhere, IsWhere, HasPlace, StartsFile, end_of, offset_of, one_byte, stretch_at};
 ghost use Rattle.sap_expect.specs.FirstWrong.{IsFirstWrong};
 
 use crate::find::{Beginning, first, second};
+use crate::parameters::parameter_place;
 use crate::place::Stretch;
 use crate::uses::use_place;
 use sap_grammar::{beyond, name_at, starts};
@@ -139,7 +141,9 @@ fn place_among(bytes: &[u8], tokens: &[Token], fault: &ReadFault) -> Option<Stre
     requires only { (ts : List Token) → AreTokens bytes.now ts → ts ≡ tokens.now }
     requires no_byte { (f : Lex) → fault.now ≡ LexFault f → ⊥ }
     requires no_item { (line : ℕ) → fault.now ≡ Syntax line → ⊥ }
+    requires no_clash { (x : List ℕ) → fault.now ≡ FunctionClash x → ⊥ }
     requires no_use { (x : List ℕ) → fault.now ≡ UnknownProcess x → ⊥ }
+    requires no_parameter { (x : List ℕ) → fault.now ≡ Parameters x → ⊥ }
     ensures place { IfSome result (λ s. IsWhere bytes.now fault.now s) }
     ensures inside { IfSome result (λ s. s.from ≤ length bytes.now) }
     ensures header { fault.now ≡ Header → result ≡ None
@@ -163,21 +167,25 @@ fn place_among(bytes: &[u8], tokens: &[Token], fault: &ReadFault) -> Option<Stre
     }
 }
 
-/// The same, or where a name that isn't defined is used.
+/// The same, or where a name that isn't defined is used, or where a parameter stands a second time.
 pub(crate) fn place_in(bytes: &[u8], tokens: &[Token], fault: &ReadFault) -> Option<Stretch>
     requires are { AreTokens bytes.now tokens.now }
     requires within { All (IsWithin (length bytes.now)) tokens.now }
     requires only { (ts : List Token) → AreTokens bytes.now ts → ts ≡ tokens.now }
     requires no_byte { (f : Lex) → fault.now ≡ LexFault f → ⊥ }
     requires no_item { (line : ℕ) → fault.now ≡ Syntax line → ⊥ }
+    requires no_clash { (x : List ℕ) → fault.now ≡ FunctionClash x → ⊥ }
     ensures place { IfSome result (λ s. IsWhere bytes.now fault.now s) }
     ensures inside { IfSome result (λ s. s.from ≤ length bytes.now) }
     ensures header { fault.now ≡ Header → result ≡ None
         → StartsFile (words_of bytes.now tokens.now) }
+    ensures once { (x : List ℕ) → fault.now ≡ Parameters x → result ≡ None → (i : ℕ)
+        → HoldsOnce (IsParameter bytes.now tokens.now x i) }
     ensures none { result ≡ None → (s : Stretch) → IsWhere bytes.now fault.now s → ⊥ }
 {
     match fault {
         ReadFault::UnknownProcess { name } => use_place(bytes, tokens, name),
+        ReadFault::Parameters { name } => parameter_place(bytes, tokens, name),
         _ => place_among(bytes, tokens, fault),
     }
 }

@@ -16,13 +16,10 @@ returns c = record {
   formulas = (refl, refl, refl, refl, refl);
   faults = (refl, refl, refl, refl);
   no_faults = (refl, refl, refl, refl);
-  declarations = (refl, refl);
-  no_declarations = (refl, refl, refl);
-  parameters = (refl, refl, refl);
   arguments = (refl, refl, refl, refl);
   no_arguments = (refl, refl, refl, refl);
   limits = (refl, refl, refl, refl);
-  silent = (refl, refl, refl, refl);
+  silent = (refl, refl, refl, refl, refl, refl);
   stands = (in_definition, in_process);
   not_there = (in_other, not_behind, not_itself, not_inside, not_beyond);
 }

@@ -11,6 +11,7 @@ use Rattle.sap_where.specs.Where.{IsWhere, at_byte}
 use Rattle.sap_where.specs.Advice.{advice}
 use Rattle.sap_where.specs.Explained.{IsPlaceTold, somewhere, unused, used, nowhere}
 use Rattle.sap_where.specs.ExplainedExamples.{one_mark, shown_byte, uses}
+use Rattle.sap_where.proofs.Loose.{told_at}
 use Rattle.sap_where.proofs.laws.explanations_by_hand.Goals as goal
 
 only_one : (k : ℕ) → k + 1 ≡ 2 → k ≡ 1
@@ -97,3 +98,9 @@ returns-clause-used c = used second
 
 pub returns-clause-unused : goal.returns-clause-unused
 returns-clause-unused c = unused
+
+pub returns-clause-either_use : goal.returns-clause-either_use
+returns-clause-either_use c = λ are. (told_at _ 1 (omega arith) (omega arith) refl are, told_at _ 2 (omega arith) (omega arith) refl are)
+
+pub returns-clause-either_name : goal.returns-clause-either_name
+returns-clause-either_name c = λ are. (told_at _ 1 (omega arith) (omega arith) refl are, told_at _ 2 (omega arith) (omega arith) refl are)

@@ -5,7 +5,7 @@ use Rattle.sap_read.specs.declared.fault.ReadFault.{ReadFault}
 use Rattle.sap_where.specs.declared.told.Told.{Told}
 use Rattle.sap_where.specs.Told.{IsTold}
 use Rattle.sap_where.proofs.Faults.{byte_place, byte_told, tokens_told}
-use Rattle.sap_where.proofs.ItemPlace.{header_told_of}
+use Rattle.sap_where.proofs.ItemPlace.{place_told_of}
 use Rattle.sap_where.proofs.Nowhere.{tokens_nowhere}
 use Rattle.sap_where.proofs.told.place_of.Goals as goal
 
@@ -22,8 +22,10 @@ returns-in-Lex-clause-told c = λ h.
 pub returns-in-Some-clause-told : goal.returns-in-Some-clause-told
 returns-in-Some-clause-told c =
     let only = rw c.in-Some.is at c.in_ok-tokens.ensures.only in
-    header_told_of c.args.bytes.now c.in-Some.tokens.items c.args.fault.now c.told_in.result
+    place_told_of c.args.bytes.now c.in-Some.tokens.items c.args.fault.now c.told_in.result
     c.in_default.not-Lex only (rw c.as_slice.ensures.value at c.told_in.ensures.header)
+    (rw c.as_slice.ensures.value at c.told_in.ensures.once)
+    (rw c.as_slice.ensures.value at c.told_in.ensures.clash)
 
 pub returns-in-None-clause-none : goal.returns-in-None-clause-none
 returns-in-None-clause-none c = λ n s.

@@ -1,0 +1,109 @@
+//! Where a parameter stands a second time in a definition.
+ghost use Rattle.std.specs.Prelude.{◌≡◌, ◌≤◌, ◌<◌, ◌+◌, ℕ, List, None, length, true, IfSome, MatchOption};
+ghost use Rattle.std.specs.List.{All};
+ghost use Rattle.sap_text.specs.Spans.{IsWithin};
+ghost use Rattle.sap_text.specs.declared.token.Token.{Token};
+ghost use Rattle.sap_read.specs.Files.{AreTokens};
+ghost use Rattle.sap_read.specs.declared.fault.ReadFault.TheVariants.{Parameters};
+ghost use Rattle.sap_where.specs.Parameters.{CanBeParameter, IsParameter, goes_on, opens_parameters};
+ghost use Rattle.sap_where.specs.Where.{HoldsOnce, IsRepeatedAt, IsSecond, IsWhere};
+ghost use Rattle.sap_where.specs.declared.place.Stretch.{Stretch};
+
+use crate::place::Stretch;
+use crate::uses::{is_named, stands};
+use crate::walk::stretch_at;
+use sap_grammar::beyond;
+use sap_spot::has_name;
+use sap_terms::Name;
+use sap_text::Token;
+
+// Whether a definition with parameters begins here.
+fn opens_parameters(bytes: &[u8], tokens: &[Token], i: usize) -> bool
+    requires { i < length tokens.now }
+    ensures { result ≡ opens_parameters bytes.now tokens.now i }
+{
+    stands(bytes, tokens, "let", i)
+        && is_named(bytes, tokens, i + 1)
+        && stands(bytes, tokens, "(", i + 2)
+}
+
+// Whether a parameter stands here, with a comma behind it.
+fn goes_on(bytes: &[u8], tokens: &[Token], n: usize) -> bool
+    requires { n < length tokens.now }
+    ensures { result ≡ goes_on bytes.now tokens.now n }
+{
+    is_named(bytes, tokens, n) && stands(bytes, tokens, ",", n + 1)
+}
+
+// The first parameter of this name from this token on, in the definition that begins with token i.
+fn next(bytes: &[u8], tokens: &[Token], name: &[u8], i: usize, from: usize) -> Option<usize>
+    requires { CanBeParameter bytes.now tokens.now i from }
+    ensures { MatchOption result
+        ((n : ℕ) → from ≤ n → IsParameter bytes.now tokens.now name.now i n → ⊥)
+        (λ k. (from ≤ k) × (k < length tokens.now) × IsParameter bytes.now tokens.now name.now i k
+        × ((n : ℕ) → from ≤ n → n < k → IsParameter bytes.now tokens.now name.now i n → ⊥)) }
+{
+    let mut n = from;
+    while n < tokens.len() {
+        if has_name(bytes, beyond(n, tokens), name) {
+            return Some(n);
+        }
+        if !goes_on(bytes, tokens, n) {
+            return None;
+        }
+        n += 2;
+    }
+    None
+}
+
+// The second parameter of this name in the definition that begins with token i.
+fn second(bytes: &[u8], tokens: &[Token], name: &[u8], i: usize) -> Option<usize>
+    requires { i < length tokens.now }
+    ensures { MatchOption result (HoldsOnce (IsParameter bytes.now tokens.now name.now i))
+        (λ k. IsSecond (IsParameter bytes.now tokens.now name.now i) k) }
+{
+    if !opens_parameters(bytes, tokens, i) {
+        return None;
+    }
+    let Some(k) = next(bytes, tokens, name, i, i + 3) else {
+        return None;
+    };
+    if goes_on(bytes, tokens, k) {
+        next(bytes, tokens, name, i, k + 2)
+    } else {
+        None
+    }
+}
+
+// The second parameter of this name in the first definition that has it twice.
+fn repeated(bytes: &[u8], tokens: &[Token], name: &[u8]) -> Option<usize>
+    ensures { MatchOption result
+        ((i : ℕ) → HoldsOnce (IsParameter bytes.now tokens.now name.now i))
+        (λ k. IsRepeatedAt bytes.now tokens.now name.now k) }
+{
+    let mut i = 0;
+    while i < tokens.len() {
+        if let Some(k) = second(bytes, tokens, name, i) {
+            return Some(k);
+        }
+        i += 1;
+    }
+    None
+}
+
+/// Where this name stands a second time among the parameters of a definition, the first that has it twice among them.
+pub(crate) fn parameter_place(bytes: &[u8], tokens: &[Token], name: &Name) -> Option<Stretch>
+    requires are { AreTokens bytes.now tokens.now }
+    requires within { All (IsWithin (length bytes.now)) tokens.now }
+    requires only { (ts : List Token) → AreTokens bytes.now ts → ts ≡ tokens.now }
+    ensures place { IfSome result (λ s. IsWhere bytes.now (Parameters name.now) s) }
+    ensures inside { IfSome result (λ s. s.from ≤ length bytes.now) }
+    ensures none { result ≡ None → (s : Stretch) → IsWhere bytes.now (Parameters name.now) s → ⊥ }
+    ensures once { result ≡ None → (i : ℕ)
+        → HoldsOnce (IsParameter bytes.now tokens.now name.now i) }
+{
+    match repeated(bytes, tokens, name.as_bytes()) {
+        Some(k) => Some(stretch_at(tokens, k)),
+        None => None,
+    }
+}
