@@ -2,5 +2,7 @@
 #![tactic(auto)]
 
 mod laws;
+mod walk;
 
 pub use laws::nodes_and_words;
+pub use walk::node_word;

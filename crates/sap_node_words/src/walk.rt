@@ -1,12 +1,12 @@
 //! The walk through a term beside its words.
-ghost use Rattle.std.specs.Prelude.{◌≡◌, ℕ, List, slice_get};
+ghost use Rattle.std.specs.Prelude.{◌≡◌, ℕ, List, None, Some, IfNone, IfSome, slice_get};
 ghost use Rattle.sap_terms.specs.Signature.{Sig};
 ghost use Rattle.sap_terms.specs.Tree.{trees_of};
 ghost use Rattle.sap_terms.specs.View.{tree};
 ghost use Rattle.sap_grammar.specs.Words.{Word, words_of};
 ghost use Rattle.sap_grammar.specs.TermGrammar.{IsTerm};
 ghost use Rattle.sap_node_words.specs.NodeWords.{term_words};
-ghost use Rattle.sap_node_words.specs.code.Walk.{Walk, Comes, past_node, past_word, unsigned, opened, is_parted, begins_parted, variable_walk, word_walk, term_walk, args_walk, list_walk, parts_walk, rest_walk};
+ghost use Rattle.sap_node_words.specs.code.Walk.{Walk, Comes, past_node, past_word, unsigned, opened, is_parted, begins_parted, variable_walk, applied_walk, pair_walk, term_walk, args_walk, list_walk, parts_walk, rest_walk};
 
 use sap_grammar::{beyond, starts};
 use sap_terms::{Term, TermList};
@@ -77,6 +77,7 @@ fn opened<'a>(bytes: &[u8], tokens: &'a [Token]) -> Option<&'a [Token]>
 
 // Whether the tokens open fewer symbols and tuples than a symbol on these terms begins with.
 #[cycle(parted)]
+#[tactic(auto, using(crate::proofs::Steps::parted_steps))]
 fn is_parted(bytes: &[u8], terms: &TermList, tokens: &[Token]) -> bool
     ensures { result ≡ is_parted (trees_of terms.now) (words_of bytes.now tokens.now) }
 {
@@ -118,6 +119,7 @@ fn walk_term<'a>(
 
 // Through a symbol on these terms, or a tuple.
 #[cycle(walk)]
+#[tactic(auto, unfolding(crate::specs::code::Walk::onward))]
 fn walk_applied<'a>(
     bytes: &[u8],
     terms: &TermList,
@@ -139,6 +141,7 @@ fn walk_applied<'a>(
 }
 
 #[cycle(walk)]
+#[tactic(auto, unfolding(crate::specs::code::Walk::onward, crate::specs::code::Walk::args_walk))]
 fn walk_args<'a>(
     bytes: &[u8],
     terms: &TermList,
@@ -154,13 +157,16 @@ fn walk_args<'a>(
     let mut before = before;
     let mut tokens = tokens;
     for k in 0..terms.len() {
-        (before, tokens) = past_word(walk_term(bytes, terms.at(k), before, tokens))?;
+        let (next, behind) = past_word(walk_term(bytes, terms.at(k), before, tokens))?;
+        before = next;
+        tokens = behind;
     }
     Ok((before, tokens))
 }
 
 // Through the two parts of a tuple.
 #[cycle(walk)]
+#[tactic(auto, unfolding(crate::specs::code::Walk::onward, crate::specs::code::Walk::parts_walk))]
 fn walk_parts<'a>(
     bytes: &[u8],
     terms: &TermList,
@@ -179,6 +185,7 @@ fn walk_parts<'a>(
 
 // Through what stands in a tuple behind a comma, and the tuple's end.
 #[cycle(walk)]
+#[tactic(auto, unfolding(crate::specs::code::Walk::onward, crate::specs::code::Walk::rest_walk))]
 fn walk_rest<'a>(
     bytes: &[u8],
     term: &Term,
@@ -196,13 +203,15 @@ fn walk_rest<'a>(
 
 // So where it is a symbol on these terms.
 #[cycle(walk)]
+#[tactic(auto, unfolding(crate::specs::code::Walk::onward))]
 fn walk_pair<'a>(
     bytes: &[u8],
     terms: &TermList,
     before: usize,
     tokens: &'a [Token],
 ) -> Result<(usize, &'a [Token]), usize>
-    ensures { Comes bytes.now result (pair_walk (trees_of terms.now) before
+    ensures { Comes bytes.now result (pair_walk (trees_of terms.now)
+        (parts_walk (trees_of terms.now)) (args_walk (trees_of terms.now)) before
         (words_of bytes.now tokens.now)) }
 {
     if is_parted(bytes, terms, tokens) {

@@ -62,6 +62,11 @@ applied_walk parts args k ws =
     else if starts (codes "(") (drop 1 ws) then onward (past_node k ws (drop 2 ws)) args
     else word_walk k ws
 
+-- through what has a comma before it, where that is a symbol on terms: the pair of a term and what is behind another comma, or one term
+abbrev pub pair_walk : Trees → (ℕ → List Word → Walk) → (ℕ → List Word → Walk) → ℕ → List Word → Walk
+pair_walk ts parts args k ws =
+    if is_parted ts ws then onward (past_node k ws ws) parts else past_word (applied_walk parts args k ws)
+
 unfoldable mutual
   -- through a term
   pub term_walk : Tree → ℕ → List Word → Walk
@@ -92,9 +97,7 @@ unfoldable mutual
   rest_walk (variable v) k ws = past_word (variable_walk k ws)
   rest_walk (public n) k ws = past_word (word_walk k ws)
   rest_walk (fresh n) k ws = past_word (word_walk k ws)
-  rest_walk (apply f ts) k ws =
-      if is_parted ts ws then onward (past_node k ws ws) (parts_walk ts)
-      else past_word (applied_walk (parts_walk ts) (args_walk ts) k ws)
+  rest_walk (apply f ts) k ws = pair_walk ts (parts_walk ts) (args_walk ts) k ws
 
 -- the answer is what the walk comes to
 abbrev pub Comes : List ℕ → Result (ℕ × Bor (List Token)) ℕ → Walk → Type 0
