@@ -2,3 +2,4 @@ pub mod Counts
 pub mod Parts
 pub mod Walks
 pub mod Steps
+pub mod ByHand

@@ -1,2 +1,3 @@
 pub mod NodeWords
+pub mod Examples
 pub mod code

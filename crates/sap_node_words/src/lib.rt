@@ -4,5 +4,5 @@
 mod laws;
 mod walk;
 
-pub use laws::nodes_and_words;
+pub use laws::{node_words_by_hand, nodes_and_words};
 pub use walk::node_word;
