@@ -1,21 +1,24 @@
 //! Laws of the words of nodes, as contracts of functions that do nothing.
 ghost use Rattle.std.specs.Prelude.{◌≡◌, ◌<◌, ◌≤◌, ℕ, List, All, length, false, codes};
+ghost use Rattle.std.specs.List.{AllZip};
 ghost use Rattle.sap_terms.specs.Signature.{Sig};
 ghost use Rattle.sap_terms.specs.Tree.{Tree, node_count};
 ghost use Rattle.sap_grammar.specs.Words.{Word, starts};
 ghost use Rattle.sap_grammar.specs.TermGrammar.{IsTerm};
-ghost use Rattle.sap_node_words.specs.NodeWords.{term_words, HasWords};
+ghost use Rattle.sap_node_words.specs.NodeWords.{term_words, nodes, StandsAt, last_words, HasWords};
 ghost use Rattle.sap_node_words.specs.Examples.{mixed, mixed_words, mixed_with, inner, inner_words, inner_with, triple, nested_words, flat_words, triple_with, pair_of_two, named_words, two_with};
 
 use sap_grammar::one_term;
 
-/// A law: each node has one word, which is a word of the term. A term has the same words for its nodes however it is spelled,
-/// and so have all terms from one place that no opening parenthesis follows.
+/// A law: each node has one word, which is a word of the term, and one at which the node stands. However words spell a term, it
+/// has the same words for its nodes; and so have any two terms from one place that no opening parenthesis follows.
 pub fn nodes_and_words()
     ensures nodes { (g : Sig) (t : Tree) (a b : List Word) (r : IsTerm g t a b)
         → length (term_words r) ≡ node_count t }
     ensures within { (g : Sig) (t : Tree) (a b : List Word) (r : IsTerm g t a b)
         → All (λ n. (length b < n) × (n ≤ length a)) (term_words r) }
+    ensures words { (g : Sig) (t : Tree) (a b : List Word) (r : IsTerm g t a b)
+        → AllZip (λ u n. StandsAt g u (last_words n a)) (nodes t) (term_words r) }
     ensures same { (g h : Sig) (t : Tree) (a b c : List Word) (r : IsTerm g t a b)
         (s : IsTerm h t a c) → term_words r ≡ term_words s }
     ensures one { (g : Sig) (t u : Tree) (a b c : List Word) (r : IsTerm g t a b)

@@ -1,4 +1,5 @@
 use Rattle.sap_node_words.proofs.Counts.{term_counts, term_within}
+use Rattle.sap_node_words.proofs.Stands.{stands}
 use Rattle.sap_node_words.proofs.Walks.{same_term, one_numbers}
 use Rattle.sap_node_words.proofs.laws.nodes_and_words.Goals as goal
 
@@ -7,6 +8,9 @@ returns-clause-nodes c = λ g t a b r. term_counts r
 
 pub returns-clause-within : goal.returns-clause-within
 returns-clause-within c = λ g t a b r. term_within r
+
+pub returns-clause-words : goal.returns-clause-words
+returns-clause-words c = λ g t a b r. stands r
 
 pub returns-clause-same : goal.returns-clause-same
 returns-clause-same c = λ g h t a b d r s. same_term r s
