@@ -1,10 +1,10 @@
 -- What the walks do at each list of terms.
-use Rattle.std.proofs.Common.{◌≡◌, ◌≢◌, ◌<◌, ◌+◌, ℕ, zero, suc, Bool, true, false, List, [], ◌∷◌, length, drop, Option, Some, None, Ok, Err, refl, sym, ap, ◌∙◌, arith}
+use Rattle.std.proofs.Common.{◌≡◌, ◌≢◌, ◌<◌, ◌+◌, ℕ, zero, suc, true, List, [], ◌∷◌, length, drop, Some, None, Ok, Err, refl, ap, ◌∙◌, arith}
 use Rattle.std.specs.Prelude.{slice_get}
-use Rattle.sap_terms.specs.Tree.{Tree, Trees, none, more, trees_of}
+use Rattle.sap_terms.specs.Tree.{Tree, trees_of}
 use Rattle.sap_terms.proofs.PlainLaws.Lists.{drop_got}
 use Rattle.sap_grammar.specs.Words.{Word}
-use Rattle.sap_node_words.specs.code.Walk.{Walk, opened, onward, past_word, is_parted, begins_parted, term_walk, args_walk, list_walk, parts_walk, rest_walk}
+use Rattle.sap_node_words.specs.code.Walk.{opened, onward, past_word, is_parted, begins_parted, term_walk, args_walk, list_walk, parts_walk, rest_walk}
 
 -- words that open nothing
 pub opens_less : (ts : List Tree) (ws : List Word) → 0 < length ts → opened ws ≡ None → is_parted (trees_of ts) ws ≡ true

@@ -1,12 +1,12 @@
 -- The walk comes to the word that the term's derivation tells.
-use Rattle.std.proofs.Common.{◌≡◌, ℕ, zero, suc, Bool, true, false, List, [], ◌∷◌, ◌++◌, length, drop, Option, Some, None, Ok, Err, refl, sym, ap, subst, ◌∙◌}
+use Rattle.std.proofs.Common.{◌≡◌, ℕ, zero, suc, Bool, true, false, List, [], ◌∷◌, ◌++◌, length, drop, Some, Ok, Err, refl, sym, ap, subst, ◌∙◌}
 use Rattle.std.specs.Prelude.{codes, slice_get, if◌then◌else◌}
 use Rattle.sap_terms.specs.Signature.{Sig}
 use Rattle.sap_terms.specs.Tree.{Tree, variable, public, fresh, apply, Trees, none, more, trees_of}
 use Rattle.sap_grammar.specs.Words.{Word, mark, name, quoted, starts}
 use Rattle.sap_grammar.specs.TermGrammar.{pair, IsTerm, IsRest, IsList, IsArgs, term_constant, term_message, term_fresh, term_pub, term_quoted, term_symbol, term_tuple, rest_last, rest_more, list_last, list_more, args_none, args_some}
 use Rattle.sap_node_words.specs.NodeWords.{term_words, rest_words, list_words, args_words}
-use Rattle.sap_node_words.specs.code.Walk.{Walk, onward, past_node, past_word, word_walk, is_parted, begins_parted, found, term_walk, applied_walk, args_walk, list_walk, parts_walk, rest_walk}
+use Rattle.sap_node_words.specs.code.Walk.{Walk, onward, past_node, past_word, word_walk, is_parted, begins_parted, found, term_walk, args_walk, list_walk, parts_walk, rest_walk}
 use Rattle.sap_node_words.proofs.Parts.{parted, whole}
 
 -- what a walk through nodes with these numbers comes to, with the words behind

@@ -1,7 +1,7 @@
 use Rattle.std.proofs.Common.{rules, ◌≡◌, Err, Ok, arith}
 use Rattle.sap_terms.specs.View.{tree}
 use Rattle.sap_grammar.specs.Words.{words_of}
-use Rattle.sap_node_words.specs.code.Walk.{Comes, past_word, term_walk, parts_walk}
+use Rattle.sap_node_words.specs.code.Walk.{past_word, term_walk}
 use Rattle.sap_node_words.proofs.Steps.{no_parts, parts_found, parts_go_on}
 use Rattle.sap_node_words.proofs.walk.+walk.Goals as goal
 
