@@ -1,6 +1,6 @@
 -- Terms and their words, by hand.
 use Rattle.std.specs.Prelude.{ℕ, codes, List, [], ◌∷◌}
-use Rattle.sap_terms.specs.declared.var.Sort.TheVariants.{Fresh, Pub}
+use Rattle.sap_terms.specs.declared.var.Sort.TheVariants.{Msg, Fresh, Pub}
 use Rattle.sap_terms.specs.Tree.{Tree, public, apply, none, more}
 use Rattle.sap_grammar.specs.Words.{Word, mark, name, quoted}
 use Rattle.sap_grammar.specs.TermGrammar.{pair, sorted}
@@ -63,6 +63,16 @@ pair_of_two = pair a b
 abbrev pub named_words : List Word
 named_words =
     name (codes "pair") ∷ mark (codes "(") ∷ quoted (codes "a") ∷ mark (codes ",") ∷ quoted (codes "b") ∷ mark (codes ")") ∷ []
+
+-- `< c , ~c >`, 6 words, where `c` is a constant, and where it is none
+abbrev pub signed_words : List Word
+signed_words = mark (codes "<") ∷ name (codes "c") ∷ mark (codes ",") ∷ mark (codes "~") ∷ name (codes "c") ∷ mark (codes ">") ∷ []
+
+abbrev pub constant_and_fresh : Tree
+constant_and_fresh = pair (apply (codes "c") none) (sorted Fresh (codes "c"))
+
+abbrev pub message_and_fresh : Tree
+message_and_fresh = pair (sorted Msg (codes "c")) (sorted Fresh (codes "c"))
 
 -- numbers of the nodes of a pair of two leaves, of one of three parts, and of `inner`
 abbrev pub two_with : ℕ → ℕ → ℕ → List ℕ

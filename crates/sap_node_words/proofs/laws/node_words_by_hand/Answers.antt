@@ -1,4 +1,4 @@
-use Rattle.sap_node_words.proofs.ByHand.{mixed_has, inner_has, nested_has, flat_has, named_has, other}
+use Rattle.sap_node_words.proofs.ByHand.{mixed_has, inner_has, nested_has, flat_has, named_has, constant_has, message_has, other}
 use Rattle.sap_node_words.proofs.laws.node_words_by_hand.Goals as goal
 
 pub returns-clause-mixed : goal.returns-clause-mixed
@@ -54,3 +54,15 @@ returns-clause-no_tuple_sign c = λ g r. other (flat_has g) (λ e. absurd (cc (e
 
 pub returns-clause-no_first_argument : goal.returns-clause-no_first_argument
 returns-clause-no_first_argument c = λ g r. other (named_has g) (λ e. absurd (cc (e))) r
+
+pub returns-clause-constant : goal.returns-clause-constant
+returns-clause-constant c = constant_has
+
+pub returns-clause-message : goal.returns-clause-message
+returns-clause-message c = message_has
+
+pub returns-clause-no_sign_in_rest : goal.returns-clause-no_sign_in_rest
+returns-clause-no_sign_in_rest c = λ g is r. other (constant_has g is) (λ e. absurd (cc (e))) r
+
+pub returns-clause-no_later_name : goal.returns-clause-no_later_name
+returns-clause-no_later_name c = λ g isnt r. other (message_has g isnt) (λ e. absurd (cc (e))) r
