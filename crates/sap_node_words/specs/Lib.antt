@@ -1,0 +1,3 @@
+pub mod NodeWords
+pub mod Examples
+pub mod code
