@@ -88,7 +88,7 @@ fn take_each(
     requires { search.old.sig ≡ sig.now }
     ensures { search.new.sig ≡ sig.now }
 {
-    let mut before = "";
+    let mut is_first = true;
     for t in terms {
         if !is_small(page.alloc, sig, t)? {
             page.fail();
@@ -97,9 +97,11 @@ fn take_each(
             page.byte(b'\n');
         } else {
             if kind == "deduce" {
-                page.word(before);
+                if !is_first {
+                    page.byte(b' ');
+                }
                 page.show(search.deduces(page.alloc, t));
-                before = " ";
+                is_first = false;
             }
             search.enter(page.alloc, t)?;
         }

@@ -15,7 +15,8 @@ const BUILTINS: &str = "hashing symmetric asymmetric signing";
 /// Puts last what is found for a row of the table. The page isn't whole where the row isn't written as the table's rows are.
 pub fn show_found(page: &mut Page, desk: &mut Desk, table: &str, row: &str) {
     match table {
-        "tokens" | "pieces" => tokens::tokens_row(page, table, row),
+        "tokens" => tokens::tokens_row(page, row),
+        "pieces" => tokens::pieces_row(page, row),
         "numbers" => {
             let number = number(page, part(row, 0));
             page.numbered("", number);

@@ -19,18 +19,11 @@ fn show_token(page: &mut Page, word: &str, token: &Token) {
     page.numbered("@", token.line);
 }
 
-/// The bytes, the longest name, and the tokens or why there are none: of each token the letter of its kind, its span and its line, in
-/// the table `pieces` its bytes, with a bar behind each.
-pub fn tokens_row(page: &mut Page, table: &str, row: &str) {
+/// The bytes, the longest name, and the tokens or why there are none: of each token the letter of its kind, its span and its line.
+pub fn tokens_row(page: &mut Page, row: &str) {
     let longest = number(page, part(row, 1));
     let bytes = written(page.alloc, part(row, 0));
     match tokens(page.alloc, bytes.as_bytes(), longest) {
-        Ok(found) if table == "pieces" => {
-            for k in 0..found.len() {
-                page.bytes(token_bytes(bytes.as_bytes(), found.as_slice(), k));
-                page.word("|");
-            }
-        }
         Ok(found) => {
             let mut before = "";
             for token in found.as_slice() {
@@ -42,5 +35,17 @@ pub fn tokens_row(page: &mut Page, table: &str, row: &str) {
             let line = file_line(page.alloc, &ReadFault::Lex(fault));
             page.text(line, "file refused: ", "\n");
         }
+    }
+}
+
+/// A text, and the bytes of each token, with a bar behind each.
+pub fn pieces_row(page: &mut Page, row: &str) {
+    let bytes = part(row, 0).as_bytes();
+    let Ok(found) = tokens(page.alloc, bytes, 64) else {
+        return page.fail();
+    };
+    for k in 0..found.len() {
+        page.bytes(token_bytes(bytes, found.as_slice(), k));
+        page.word("|");
     }
 }
