@@ -11,10 +11,10 @@ use Rattle.sap_replay.specs.declared.way.Way.TheVariants.{Plain}
 use Rattle.sap_replay.specs.declared.task.Task.TheVariants.{Judge}
 use Rattle.sap_tool.specs.Commands.{Command, compile, replay, to_json, Input, alone, and_run, run_alone, spelled, AcceptsFile, IsUnknown}
 use Rattle.sap_tool.specs.ToldAtOnce.{IsToldAtOnce}
-use Rattle.sap_answer.specs.Answer.{Answer, gives, tells, Part, Starved, CutLast, IsLast, complete, cut, read_fault_text, write_fault_text, memory_text}
+use Rattle.sap_answer.specs.Answer.{Answer, gives, tells, Part, Broken, Starved, CutLast, IsLast, complete, cut, usage_text, read_fault_text, write_fault_text, memory_text}
 use Rattle.sap_tool.specs.Answers.{IsAnswer, Fetched, refused, run_refused, to_input, usage, unread, unread_run, FailedOnFile, FailedOnRun, IsRunNext, WasRunGivenUp, WasRunRead, IsBegun, asked_nothing, asked_file, asked_run, asked_both, for_file}
 use Rattle.sap_tool.specs.Promises as promised
-use Rattle.sap_tool.specs.PromisesExamples.{asking, telling, compile_words, fetches, version_words, json_words, judge_words, unknown_words, run_json, got, failed, untouched}
+use Rattle.sap_tool.specs.PromisesExamples.{asking, telling, compile_words, fetches, version_words, json_words, judge_words, unknown_words, run_json, opens, piece, got, failed, untouched}
 use Rattle.sap_tool.proofs.Endings.{usage_is}
 use Rattle.sap_tool.proofs.AtOnce.{OnePage}
 use Rattle.sap_tool.proofs.Asked.{one_command, differ}
@@ -59,6 +59,12 @@ returns-clause-more_json c = λ held is p.
     let g = given_json _ refl (p.given refl) in
     let read = line_is_read c.named_steps_can_be_written.ensures.process c.printed_runs_are_read.ensures.process in
     longer_json (g.out.0 ∙ given_is c.one_run.ensures.either read c.arrays_by_hand.ensures.text g.z g.text (held_read held g.z _ is g.read) g.written)
+
+pub returns-clause-both_sinks_json : goal.returns-clause-both_sinks_json
+returns-clause-both_sinks_json c = λ p. at (p.given refl) where
+  at : promised.Given (asking json_words (opens (piece ∷ piece ∷ [])) 0 (got run_json 1) (got usage_text 1)) ⊎ promised.GivenAtOnce (asking json_words (opens (piece ∷ piece ∷ [])) 0 (got run_json 1) (got usage_text 1)) → ⊥
+  at (inl g) = usage_is g.err.0
+  at (inr g) = usage_is g.err.0
 
 pub returns-clause-fewer_pieces : goal.returns-clause-fewer_pieces
 returns-clause-fewer_pieces c = λ p.
@@ -183,6 +189,22 @@ returns-clause-other_first c = λ p. let was = (run_unread _ refl (p.unread refl
 pub returns-clause-no_fault : goal.returns-clause-no_fault
 returns-clause-no_fault c = λ p. let rose : 1 ≤ 0 = (run_unread _ refl (p.unread refl)).0 in omega (arith, rose)
 
+pub returns-clause-out_unread : goal.returns-clause-out_unread
+returns-clause-out_unread c = λ p. some_out (p.unread refl).out.0
+
+-- what status 4 tells
+unread_text : (c : Call) (n : ℕ) (text : List ℕ) → n ≡ 4 → IsAnswer c (tells n text) → text ≡ read_fault_text
+unread_text c _ _ e (to_input k input asks f (refused why r)) = absurd (omega (arith, e))
+unread_text c _ _ e (to_input k input asks f (run_refused why r)) = absurd (omega (arith, e))
+unread_text c _ _ e (usage u none) = absurd (omega (arith, e))
+unread_text c _ _ e (unread k asks f n) = refl
+unread_text c _ _ e (unread_run k asks next f n) = refl
+
+pub returns-clause-other_text_unread : goal.returns-clause-other_text_unread
+returns-clause-other_text_unread c = λ p.
+    let told = p.unread refl in
+    differ usage_text read_fault_text (told.err.0 ∙ unread_text _ 4 told.text refl told.cause) refl refl
+
 -- no put was cut short
 never_cut : (bytes : List ℕ) (puts : ℕ) → CutShort (got bytes puts) → ⊥
 never_cut bytes puts (inl h) = let l : 1 ≤ 0 = h in omega (arith, l)
@@ -220,6 +242,14 @@ returns-clause-one_fault c = λ p. let u = p.unwritten refl in at u.answer u.cau
   at (gives text) is taken last part word = x_unknown.no_text text (given_told one text (λ k asks. x_unknown.no_command k asks) is)
   at (tells n text) is taken last part word = two_words taken text last (once (codes "usagewrite") 2 (tells n text) last n text refl word) part.1.0
 
+-- no sink failed
+unfailed : (bytes : List ℕ) (puts : ℕ) (a : Answer) → Broken a (got bytes puts) (got write_fault_text 1) → ⊥
+unfailed bytes puts (gives text) h = let l : 1 ≤ 0 = h in omega (arith, l)
+unfailed bytes puts (tells n text) h = let l : 1 ≤ 0 = h in omega (arith, l)
+
+pub returns-clause-no_write_fault : goal.returns-clause-no_write_fault
+returns-clause-no_write_fault c = λ words made faults bytes puts p. let u = p.unwritten refl in unfailed bytes puts u.answer u.broken
+
 pub returns-clause-two_puts : goal.returns-clause-two_puts
 returns-clause-two_puts c = λ words made faults bytes few p.
     on_out words made faults (failed 1 bytes 2) (λ text taken is part. no_two_puts bytes few taken text part) (p.unwritten refl)
@@ -235,6 +265,16 @@ returns-clause-other_part c = λ p.
     let same : text ≡ version_text = version_only c.one_page.ensures text (given_told _ text version_asks is) in
     no_usage taken (part.gained.0 ∙ ap (λ (t : List ℕ). take taken t) same))
     (p.unwritten refl)
+
+-- the call
+abbrev beside : Call
+beside = asking json_words (opens []) 1 (got (codes "sapic") 1) (failed 1 (codes "readwrite fault\n") 2)
+
+pub returns-clause-out_unwritten : goal.returns-clause-out_unwritten
+returns-clause-out_unwritten c = λ p. let u = p.unwritten refl in at u.answer u.broken u.taken u.last u.part where
+  at : (answer : Answer) → Broken answer beside.out beside.err → (taken : ℕ) (last : List ℕ) → Part answer taken last beside.out beside.err → ⊥
+  at (gives text) broken taken last part = let l : 1 ≤ 0 = broken in omega (arith, l)
+  at (tells n text) broken taken last part = some_out part.0.0
 
 pub returns-clause-asked_unwritten : goal.returns-clause-asked_unwritten
 returns-clause-asked_unwritten c = λ p.
@@ -269,7 +309,7 @@ returns-clause-other_run c = λ p. at (p.wanting refl) where
 
 -- the call
 abbrev behind : Files → Call
-behind held = telling held judge_words (fetches ++ begin (codes "r") ∷ []) untouched (got memory_text 1)
+behind held = telling held judge_words (fetches ++ opens (piece ∷ [])) untouched (got memory_text 1)
 
 module _ (one : OneReading) (held : Files) (is : files.get held (codes "f") ≡ Some []) where
   same_judged : (k : Command) → judge_words ≡ spelled k → k ≡ replay Judge (codes "f") (codes "r")
@@ -285,8 +325,8 @@ module _ (one : OneReading) (held : Files) (is : files.get held (codes "f") ≡ 
   never_begun : IsBegun (behind held) → ⊥
   never_begun (asked_nothing none) = none_asked _ _ none
   never_begun (asked_file k asks f) =
-      let made : fetches ++ begin (codes "r") ∷ [] ≡ fetches = subst (λ (m : Command). AskedFor (behind held) (for_file m)) (same_judged k asks) f in
-      let count : 2 ≡ 1 = ap (λ (rs : List Request). length rs) made in
+      let made : fetches ++ opens (piece ∷ []) ≡ fetches = subst (λ (m : Command). AskedFor (behind held) (for_file m)) (same_judged k asks) f in
+      let count : 3 ≡ 1 = ap (λ (rs : List Request). length rs) made in
       omega (arith, count)
   never_begun (asked_run k asks next given_up) = not_next (subst (λ (m : Command). IsRunNext (behind held) m) (same_judged k asks) next)
   never_begun (asked_both k z asks next read) = not_next (subst (λ (m : Command). IsRunNext (behind held) m) (same_judged k asks) next)
