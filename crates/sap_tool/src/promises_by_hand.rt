@@ -49,14 +49,15 @@ pub fn promises_are_kept_by_hand()
 }
 
 /// A law: calls that break them, most beside one that keeps them. Of status 0: a byte more on out, or a text on err beside it; the shelf
-/// asked for a file where nothing is read; of a run as JSON a byte more, a text on err beside it, another run opened first, or one piece too
-/// few asked for. A file, and a run, refused where another was asked for; a file, and a run, that the shelf tells it holds, refused for
-/// another cause; known words that are told as unknown, or unknown ones with a file asked for, and a text on out beside unknown ones. Of
-/// status 4: another run opened first, another file fetched first, no fault of the run, a text on out, or another text on err. Of status 5:
-/// half a last word on err, or one behind another text after one fault; fewer bytes on out by two puts than a piece has, or more by one,
-/// whatever the text; bytes that begin another text; a text on out beside a first part of one on err; the shelf asked for a file where
-/// nothing is read; or no fault of a sink, whatever the words. Of status 6: another run opened; a run opened, and a piece of it asked for,
-/// behind a file that is refused; a first part on out that wanted no memory. A status that there isn't.
+/// asked for a file where nothing is read; of a run as JSON a byte more, a text on err beside it, another run opened, alone or first, or one
+/// piece too few asked for. A file, and a run, refused where another was asked for; a file, and a run, that the shelf tells it holds,
+/// refused for another cause; known words that are told as unknown, or unknown ones with a file asked for, and a text on out beside unknown
+/// ones. Of status 4: another run opened, or another file fetched, alone or first, no fault of the run, a text on out, or another text on
+/// err. Of status 5: half a last word on err, or one behind another text after one fault; fewer bytes on out by two puts than a piece has,
+/// or more by one, whatever the text; bytes that begin another text; a text on out beside a first part of one on err; the shelf asked for a
+/// file where nothing is read; or no fault of a sink, whatever the words. Of status 6: another run opened and asked for a piece, or another
+/// file fetched; a run opened, and a piece of it asked for, behind a file that is refused; a first part on out that wanted no memory. A
+/// status that there isn't.
 pub fn promises_are_broken_by_hand()
     ensures more { Promises (asking version_words [] 0 (got (version_text ++ codes "\n") 1) untouched) 0 → ⊥ }
     ensures both_sinks { Promises (asking version_words [] 0 (got version_text 1) (got usage_text 1)) 0 → ⊥ }
@@ -66,6 +67,8 @@ pub fn promises_are_broken_by_hand()
     ensures both_sinks_json { Promises (asking json_words (opens (piece ∷ piece ∷ [])) 0 (got run_json 1)
         (got usage_text 1)) 0 → ⊥ }
     ensures other_run_given { Promises (asking json_words (begin (codes "s") ∷ opens (piece ∷ piece ∷ [])) 0
+        (got run_json 1) untouched) 0 → ⊥ }
+    ensures run_of_another_name { Promises (asking json_words (begin (codes "s") ∷ piece ∷ piece ∷ []) 0
         (got run_json 1) untouched) 0 → ⊥ }
     ensures fewer_pieces { Promises (asking json_words (opens (piece ∷ [])) 0 (got run_json 1) untouched) 0 → ⊥ }
     ensures other_file_refused { Promises (asking compile_words (fetch (codes "g") 1048576 ∷ []) 0 untouched
@@ -85,6 +88,10 @@ pub fn promises_are_broken_by_hand()
     ensures other_first { Promises (asking json_words (begin (codes "s") ∷ opens []) 1 untouched
         (got read_fault_text 1)) 4 → ⊥ }
     ensures other_file_first { Promises (asking compile_words (fetch (codes "g") 1048576 ∷ fetches) 1 untouched
+        (got read_fault_text 1)) 4 → ⊥ }
+    ensures other_run_unread { Promises (asking json_words (begin (codes "s") ∷ []) 1 untouched
+        (got read_fault_text 1)) 4 → ⊥ }
+    ensures other_file_unread { Promises (asking compile_words (fetch (codes "g") 1048576 ∷ []) 1 untouched
         (got read_fault_text 1)) 4 → ⊥ }
     ensures no_fault { Promises (asking json_words (opens []) 0 untouched (got read_fault_text 1)) 4 → ⊥ }
     ensures out_unread { Promises (asking json_words (opens []) 1 (got (codes "sapic") 1)
@@ -108,7 +115,9 @@ pub fn promises_are_broken_by_hand()
         (failed 1 (codes "readwrite fault\n") 2)) 5 → ⊥ }
     ensures asked_unwritten { Promises (asking version_words (begin (codes "r") ∷ []) 0
         (failed 1 (codes "sapic") 1) (got write_fault_text 1)) 5 → ⊥ }
-    ensures other_run { Promises (asking json_words (begin (codes "s") ∷ []) 0 untouched
+    ensures other_run { Promises (asking json_words (begin (codes "s") ∷ piece ∷ []) 0 untouched
+        (got memory_text 1)) 6 → ⊥ }
+    ensures other_file { Promises (asking compile_words (fetch (codes "g") 1048576 ∷ []) 0 untouched
         (got memory_text 1)) 6 → ⊥ }
     ensures behind_refused { (held : Files) → files.get held (codes "f") ≡ Some []
         → Promises (telling held judge_words (fetches ++ opens (piece ∷ [])) untouched (got memory_text 1)) 6 → ⊥ }

@@ -135,6 +135,9 @@ other_begun nexts made e = differ (codes "s") (codes "r") (ap first_name e) refl
 pub returns-clause-other_run_given : goal.returns-clause-other_run_given
 returns-clause-other_run_given c = λ p. let g = given_json _ refl (p.given refl) in other_begun (length g.read.pieces) _ g.read.asked
 
+pub returns-clause-run_of_another_name : goal.returns-clause-run_of_another_name
+returns-clause-run_of_another_name c = λ p. let g = given_json _ refl (p.given refl) in other_begun (length g.read.pieces) _ g.read.asked
+
 -- which file is fetched
 abbrev fetched_name : List Request → List ℕ
 fetched_name (fetch name limit ∷ more) = name
@@ -162,11 +165,21 @@ file_refused c is told =
 pub returns-clause-other_file_refused : goal.returns-clause-other_file_refused
 returns-clause-other_file_refused c = λ p. other_fetched [] (file_refused _ refl (p.refused refl))
 
+-- what status 4 says, where the words ask for a theory
+file_unread : (c : Call) → c.words ≡ compile_words → promised.Told c 4 → AskedFor c fetches
+file_unread c is told = at (unread_is c 4 told.text refl told.cause) where
+  same : (k : Command) → c.words ≡ spelled k → k ≡ compile Plain (codes "f")
+  same k asks = one_command c.words k (compile Plain (codes "f")) asks is
+
+  at : Unread c → AskedFor c fetches
+  at (of_file k asks f n) = subst (λ (m : Command). AskedFor c (for_file m)) (same k asks) n
+  at (of_run k asks f n) = absurd (subst (λ (m : Command). FailedOnRun c m) (same k asks) f)
+
 pub returns-clause-other_file_first : goal.returns-clause-other_file_first
-returns-clause-other_file_first c = λ p. let told = p.unread refl in at (unread_is _ 4 told.text refl told.cause) where
-  at : Unread (asking compile_words (fetch (codes "g") 1048576 ∷ fetches) 1 untouched (got read_fault_text 1)) → ⊥
-  at (of_file k asks f n) = other_fetched fetches (subst (λ (m : Command). AskedFor (asking compile_words (fetch (codes "g") 1048576 ∷ fetches) 1 untouched (got read_fault_text 1)) (for_file m)) (compile_same k asks) n)
-  at (of_run k asks f n) = subst (λ (m : Command). FailedOnRun (asking compile_words (fetch (codes "g") 1048576 ∷ fetches) 1 untouched (got read_fault_text 1)) m) (compile_same k asks) f
+returns-clause-other_file_first c = λ p. other_fetched fetches (file_unread _ refl (p.unread refl))
+
+pub returns-clause-other_file_unread : goal.returns-clause-other_file_unread
+returns-clause-other_file_unread c = λ p. other_fetched [] (file_unread _ refl (p.unread refl))
 
 -- what was asked for where it refuses the run
 run_asked : (c : Call) (input : Input) → Fetched c (to_json (codes "r")) input → (z : List ℕ) × WasRunRead c (to_json (codes "r")) z
@@ -185,6 +198,9 @@ returns-clause-other_run_refused c = λ p. let was = run_refused_so _ refl (p.re
 
 pub returns-clause-other_first : goal.returns-clause-other_first
 returns-clause-other_first c = λ p. let was = (run_unread _ refl (p.unread refl)).1 in other_begun was.nexts _ was.asked
+
+pub returns-clause-other_run_unread : goal.returns-clause-other_run_unread
+returns-clause-other_run_unread c = λ p. let was = (run_unread _ refl (p.unread refl)).1 in other_begun was.nexts _ was.asked
 
 pub returns-clause-no_fault : goal.returns-clause-no_fault
 returns-clause-no_fault c = λ p. let rose : 1 ≤ 0 = (run_unread _ refl (p.unread refl)).0 in omega (arith, rose)
@@ -282,7 +298,7 @@ returns-clause-asked_unwritten c = λ p.
 
 -- the call
 abbrev other : Call
-other = asking json_words (begin (codes "s") ∷ []) 0 untouched (got memory_text 1)
+other = asking json_words (begin (codes "s") ∷ piece ∷ []) 0 untouched (got memory_text 1)
 
 pub returns-clause-other_run : goal.returns-clause-other_run
 returns-clause-other_run c = λ p. at (p.wanting refl) where
@@ -294,16 +310,36 @@ returns-clause-other_run c = λ p. at (p.wanting refl) where
   begun (asked_file k asks f) = no_request _ _ (subst (λ (m : Command). AskedFor other (for_file m)) (same k asks) f)
   begun (asked_run k asks next given_up) =
       let was = subst (λ (m : Command). WasRunGivenUp other m) (same k asks) given_up in
-      other_begun was.nexts [] was.asked
+      other_begun was.nexts (piece ∷ []) was.asked
   begun (asked_both k z asks next read) =
       let was = subst (λ (m : Command). WasRunRead other m z) (same k asks) read in
-      other_begun (length was.pieces) [] was.asked
+      other_begun (length was.pieces) (piece ∷ []) was.asked
 
   starved_none : (a : Answer) → Starved a other.out other.err → ⊥
   starved_none (gives text) h = let l : 1 ≤ 0 = h in omega (arith, l)
   starved_none (tells n text) h = let l : 1 ≤ 0 = h in omega (arith, l)
 
   at : promised.Wanting other → ⊥
+  at (promised.before_all last b none word l) = begun b
+  at (promised.while_put a taken last is h part l) = starved_none a h
+
+-- the call
+abbrev other_fetch : Call
+other_fetch = asking compile_words (fetch (codes "g") 1048576 ∷ []) 0 untouched (got memory_text 1)
+
+pub returns-clause-other_file : goal.returns-clause-other_file
+returns-clause-other_file c = λ p. at (p.wanting refl) where
+  begun : IsBegun other_fetch → ⊥
+  begun (asked_nothing none) = none_asked _ _ none
+  begun (asked_file k asks f) = other_fetched [] (subst (λ (m : Command). AskedFor other_fetch (for_file m)) (compile_same k asks) f)
+  begun (asked_run k asks next given_up) = subst (λ (m : Command). WasRunGivenUp other_fetch m) (compile_same k asks) given_up
+  begun (asked_both k z asks next read) = subst (λ (m : Command). WasRunRead other_fetch m z) (compile_same k asks) read
+
+  starved_none : (a : Answer) → Starved a other_fetch.out other_fetch.err → ⊥
+  starved_none (gives text) h = let l : 1 ≤ 0 = h in omega (arith, l)
+  starved_none (tells n text) h = let l : 1 ≤ 0 = h in omega (arith, l)
+
+  at : promised.Wanting other_fetch → ⊥
   at (promised.before_all last b none word l) = begun b
   at (promised.while_put a taken last is h part l) = starved_none a h
 
