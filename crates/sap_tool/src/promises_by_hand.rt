@@ -48,21 +48,27 @@ pub fn promises_are_kept_by_hand()
     texts_mean_what_they_say();
 }
 
-/// A law: calls that break them, most beside one that keeps them. Of status 0: a byte more on out, or a text on err beside it; the shelf asked
-/// for a file where nothing is read; of a run as JSON a byte more, another run opened first, or one piece too few asked for. A file, and a
-/// run, refused where another was asked for; a file, and a run, that the shelf tells it holds, refused for another cause; known words that are
-/// told as unknown, or unknown ones with a file asked for, and a text on out beside unknown ones. Of status 4: another run opened first,
-/// another file fetched first, or no fault of the run. Of status 5: half a last word on err, or one behind another text after one fault; fewer
-/// bytes on out by two puts than a piece has, or more by one, whatever the text; bytes that begin another text; the shelf asked for a file
-/// where nothing is read. Of status 6: another run opened; a run asked for behind a file that is refused; a
-/// first part on out that wanted no memory. A status that there isn't.
+/// A law: calls that break them, most beside one that keeps them. Of status 0: a byte more on out, or a text on err beside it; the shelf
+/// asked for a file where nothing is read; of a run as JSON a byte more, a text on err beside it, another run opened, alone or first, or one
+/// piece too few asked for. A file, and a run, refused where another was asked for; a file, and a run, that the shelf tells it holds,
+/// refused for another cause; known words that are told as unknown, or unknown ones with a file asked for, and a text on out beside unknown
+/// ones. Of status 4: another run opened, or another file fetched, alone or first, no fault of the run, a text on out, or another text on
+/// err. Of status 5: half a last word on err, or one behind another text after one fault; fewer bytes on out by two puts than a piece has,
+/// or more by one, whatever the text; bytes that begin another text; a text on out beside a first part of one on err; the shelf asked for a
+/// file where nothing is read; or no fault of a sink, whatever the words. Of status 6: another run opened and asked for a piece, or another
+/// file fetched; a run opened, and a piece of it asked for, behind a file that is refused; a first part on out that wanted no memory. A
+/// status that there isn't.
 pub fn promises_are_broken_by_hand()
     ensures more { Promises (asking version_words [] 0 (got (version_text ++ codes "\n") 1) untouched) 0 → ⊥ }
     ensures both_sinks { Promises (asking version_words [] 0 (got version_text 1) (got usage_text 1)) 0 → ⊥ }
     ensures asked { Promises (asking version_words (begin (codes "r") ∷ []) 0 (got version_text 1) untouched) 0 → ⊥ }
     ensures more_json { (held : Files) → files.get held (codes "r") ≡ Some run_bytes
         → Promises (telling held json_words (opens (piece ∷ piece ∷ [])) (got (run_json ++ codes "\n") 1) untouched) 0 → ⊥ }
+    ensures both_sinks_json { Promises (asking json_words (opens (piece ∷ piece ∷ [])) 0 (got run_json 1)
+        (got usage_text 1)) 0 → ⊥ }
     ensures other_run_given { Promises (asking json_words (begin (codes "s") ∷ opens (piece ∷ piece ∷ [])) 0
+        (got run_json 1) untouched) 0 → ⊥ }
+    ensures run_of_another_name { Promises (asking json_words (begin (codes "s") ∷ piece ∷ piece ∷ []) 0
         (got run_json 1) untouched) 0 → ⊥ }
     ensures fewer_pieces { Promises (asking json_words (opens (piece ∷ [])) 0 (got run_json 1) untouched) 0 → ⊥ }
     ensures other_file_refused { Promises (asking compile_words (fetch (codes "g") 1048576 ∷ []) 0 untouched
@@ -83,11 +89,20 @@ pub fn promises_are_broken_by_hand()
         (got read_fault_text 1)) 4 → ⊥ }
     ensures other_file_first { Promises (asking compile_words (fetch (codes "g") 1048576 ∷ fetches) 1 untouched
         (got read_fault_text 1)) 4 → ⊥ }
+    ensures other_run_unread { Promises (asking json_words (begin (codes "s") ∷ []) 1 untouched
+        (got read_fault_text 1)) 4 → ⊥ }
+    ensures other_file_unread { Promises (asking compile_words (fetch (codes "g") 1048576 ∷ []) 1 untouched
+        (got read_fault_text 1)) 4 → ⊥ }
     ensures no_fault { Promises (asking json_words (opens []) 0 untouched (got read_fault_text 1)) 4 → ⊥ }
+    ensures out_unread { Promises (asking json_words (opens []) 1 (got (codes "sapic") 1)
+        (got read_fault_text 1)) 4 → ⊥ }
+    ensures other_text_unread { Promises (asking json_words (opens []) 1 untouched (got usage_text 1)) 4 → ⊥ }
     ensures half_word { Promises (asking version_words [] 0 (failed 1 (codes "sapic") 1)
         (got (codes "write") 1)) 5 → ⊥ }
     ensures one_fault { Promises (asking unknown_words [] 0 untouched
         (failed 1 (codes "usagewrite") 2)) 5 → ⊥ }
+    ensures no_write_fault { (words : List (List ℕ)) (made : List Request) (faults : ℕ) (bytes : List ℕ) (puts : ℕ)
+        → Promises (asking words made faults (got bytes puts) (got write_fault_text 1)) 5 → ⊥ }
     ensures two_puts { (words : List (List ℕ)) (made : List Request) (faults : ℕ) (bytes : List ℕ)
         → length bytes < piece_bytes
         → Promises (asking words made faults (failed 1 bytes 2) (got write_fault_text 1)) 5 → ⊥ }
@@ -96,12 +111,16 @@ pub fn promises_are_broken_by_hand()
         → Promises (asking words made faults (failed 1 bytes 1) (got write_fault_text 1)) 5 → ⊥ }
     ensures other_part { Promises (asking version_words [] 0 (failed 1 (codes "usage") 1)
         (got write_fault_text 1)) 5 → ⊥ }
+    ensures out_unwritten { Promises (asking json_words (opens []) 1 (got (codes "sapic") 1)
+        (failed 1 (codes "readwrite fault\n") 2)) 5 → ⊥ }
     ensures asked_unwritten { Promises (asking version_words (begin (codes "r") ∷ []) 0
         (failed 1 (codes "sapic") 1) (got write_fault_text 1)) 5 → ⊥ }
-    ensures other_run { Promises (asking json_words (begin (codes "s") ∷ []) 0 untouched
+    ensures other_run { Promises (asking json_words (begin (codes "s") ∷ piece ∷ []) 0 untouched
+        (got memory_text 1)) 6 → ⊥ }
+    ensures other_file { Promises (asking compile_words (fetch (codes "g") 1048576 ∷ []) 0 untouched
         (got memory_text 1)) 6 → ⊥ }
     ensures behind_refused { (held : Files) → files.get held (codes "f") ≡ Some []
-        → Promises (telling held judge_words (fetches ++ begin (codes "r") ∷ []) untouched (got memory_text 1)) 6 → ⊥ }
+        → Promises (telling held judge_words (fetches ++ opens (piece ∷ [])) untouched (got memory_text 1)) 6 → ⊥ }
     ensures not_starved { Promises (asking version_words [] 0 (got (codes "sapic") 1) (got memory_text 1)) 6 → ⊥ }
     ensures no_status { Promises (asking version_words [] 0 (got version_text 1) untouched) 7 → ⊥ }
 {

@@ -11,10 +11,10 @@ use Rattle.sap_replay.specs.declared.way.Way.TheVariants.{Plain}
 use Rattle.sap_replay.specs.declared.task.Task.TheVariants.{Judge}
 use Rattle.sap_tool.specs.Commands.{Command, compile, replay, to_json, Input, alone, and_run, run_alone, spelled, AcceptsFile, IsUnknown}
 use Rattle.sap_tool.specs.ToldAtOnce.{IsToldAtOnce}
-use Rattle.sap_answer.specs.Answer.{Answer, gives, tells, Part, Starved, CutLast, IsLast, complete, cut, read_fault_text, write_fault_text, memory_text}
+use Rattle.sap_answer.specs.Answer.{Answer, gives, tells, Part, Broken, Starved, CutLast, IsLast, complete, cut, usage_text, read_fault_text, write_fault_text, memory_text}
 use Rattle.sap_tool.specs.Answers.{IsAnswer, Fetched, refused, run_refused, to_input, usage, unread, unread_run, FailedOnFile, FailedOnRun, IsRunNext, WasRunGivenUp, WasRunRead, IsBegun, asked_nothing, asked_file, asked_run, asked_both, for_file}
 use Rattle.sap_tool.specs.Promises as promised
-use Rattle.sap_tool.specs.PromisesExamples.{asking, telling, compile_words, fetches, version_words, json_words, judge_words, unknown_words, run_json, got, failed, untouched}
+use Rattle.sap_tool.specs.PromisesExamples.{asking, telling, compile_words, fetches, version_words, json_words, judge_words, unknown_words, run_json, opens, piece, got, failed, untouched}
 use Rattle.sap_tool.proofs.Endings.{usage_is}
 use Rattle.sap_tool.proofs.AtOnce.{OnePage}
 use Rattle.sap_tool.proofs.Asked.{one_command, differ}
@@ -59,6 +59,12 @@ returns-clause-more_json c = λ held is p.
     let g = given_json _ refl (p.given refl) in
     let read = line_is_read c.named_steps_can_be_written.ensures.process c.printed_runs_are_read.ensures.process in
     longer_json (g.out.0 ∙ given_is c.one_run.ensures.either read c.arrays_by_hand.ensures.text g.z g.text (held_read held g.z _ is g.read) g.written)
+
+pub returns-clause-both_sinks_json : goal.returns-clause-both_sinks_json
+returns-clause-both_sinks_json c = λ p. at (p.given refl) where
+  at : promised.Given (asking json_words (opens (piece ∷ piece ∷ [])) 0 (got run_json 1) (got usage_text 1)) ⊎ promised.GivenAtOnce (asking json_words (opens (piece ∷ piece ∷ [])) 0 (got run_json 1) (got usage_text 1)) → ⊥
+  at (inl g) = usage_is g.err.0
+  at (inr g) = usage_is g.err.0
 
 pub returns-clause-fewer_pieces : goal.returns-clause-fewer_pieces
 returns-clause-fewer_pieces c = λ p.
@@ -129,6 +135,9 @@ other_begun nexts made e = differ (codes "s") (codes "r") (ap first_name e) refl
 pub returns-clause-other_run_given : goal.returns-clause-other_run_given
 returns-clause-other_run_given c = λ p. let g = given_json _ refl (p.given refl) in other_begun (length g.read.pieces) _ g.read.asked
 
+pub returns-clause-run_of_another_name : goal.returns-clause-run_of_another_name
+returns-clause-run_of_another_name c = λ p. let g = given_json _ refl (p.given refl) in other_begun (length g.read.pieces) _ g.read.asked
+
 -- which file is fetched
 abbrev fetched_name : List Request → List ℕ
 fetched_name (fetch name limit ∷ more) = name
@@ -156,11 +165,21 @@ file_refused c is told =
 pub returns-clause-other_file_refused : goal.returns-clause-other_file_refused
 returns-clause-other_file_refused c = λ p. other_fetched [] (file_refused _ refl (p.refused refl))
 
+-- what status 4 says, where the words ask for a theory
+file_unread : (c : Call) → c.words ≡ compile_words → promised.Told c 4 → AskedFor c fetches
+file_unread c is told = at (unread_is c 4 told.text refl told.cause) where
+  same : (k : Command) → c.words ≡ spelled k → k ≡ compile Plain (codes "f")
+  same k asks = one_command c.words k (compile Plain (codes "f")) asks is
+
+  at : Unread c → AskedFor c fetches
+  at (of_file k asks f n) = subst (λ (m : Command). AskedFor c (for_file m)) (same k asks) n
+  at (of_run k asks f n) = absurd (subst (λ (m : Command). FailedOnRun c m) (same k asks) f)
+
 pub returns-clause-other_file_first : goal.returns-clause-other_file_first
-returns-clause-other_file_first c = λ p. let told = p.unread refl in at (unread_is _ 4 told.text refl told.cause) where
-  at : Unread (asking compile_words (fetch (codes "g") 1048576 ∷ fetches) 1 untouched (got read_fault_text 1)) → ⊥
-  at (of_file k asks f n) = other_fetched fetches (subst (λ (m : Command). AskedFor (asking compile_words (fetch (codes "g") 1048576 ∷ fetches) 1 untouched (got read_fault_text 1)) (for_file m)) (compile_same k asks) n)
-  at (of_run k asks f n) = subst (λ (m : Command). FailedOnRun (asking compile_words (fetch (codes "g") 1048576 ∷ fetches) 1 untouched (got read_fault_text 1)) m) (compile_same k asks) f
+returns-clause-other_file_first c = λ p. other_fetched fetches (file_unread _ refl (p.unread refl))
+
+pub returns-clause-other_file_unread : goal.returns-clause-other_file_unread
+returns-clause-other_file_unread c = λ p. other_fetched [] (file_unread _ refl (p.unread refl))
 
 -- what was asked for where it refuses the run
 run_asked : (c : Call) (input : Input) → Fetched c (to_json (codes "r")) input → (z : List ℕ) × WasRunRead c (to_json (codes "r")) z
@@ -180,8 +199,27 @@ returns-clause-other_run_refused c = λ p. let was = run_refused_so _ refl (p.re
 pub returns-clause-other_first : goal.returns-clause-other_first
 returns-clause-other_first c = λ p. let was = (run_unread _ refl (p.unread refl)).1 in other_begun was.nexts _ was.asked
 
+pub returns-clause-other_run_unread : goal.returns-clause-other_run_unread
+returns-clause-other_run_unread c = λ p. let was = (run_unread _ refl (p.unread refl)).1 in other_begun was.nexts _ was.asked
+
 pub returns-clause-no_fault : goal.returns-clause-no_fault
 returns-clause-no_fault c = λ p. let rose : 1 ≤ 0 = (run_unread _ refl (p.unread refl)).0 in omega (arith, rose)
+
+pub returns-clause-out_unread : goal.returns-clause-out_unread
+returns-clause-out_unread c = λ p. some_out (p.unread refl).out.0
+
+-- what status 4 tells
+unread_text : (c : Call) (n : ℕ) (text : List ℕ) → n ≡ 4 → IsAnswer c (tells n text) → text ≡ read_fault_text
+unread_text c _ _ e (to_input k input asks f (refused why r)) = absurd (omega (arith, e))
+unread_text c _ _ e (to_input k input asks f (run_refused why r)) = absurd (omega (arith, e))
+unread_text c _ _ e (usage u none) = absurd (omega (arith, e))
+unread_text c _ _ e (unread k asks f n) = refl
+unread_text c _ _ e (unread_run k asks next f n) = refl
+
+pub returns-clause-other_text_unread : goal.returns-clause-other_text_unread
+returns-clause-other_text_unread c = λ p.
+    let told = p.unread refl in
+    differ usage_text read_fault_text (told.err.0 ∙ unread_text _ 4 told.text refl told.cause) refl refl
 
 -- no put was cut short
 never_cut : (bytes : List ℕ) (puts : ℕ) → CutShort (got bytes puts) → ⊥
@@ -220,6 +258,14 @@ returns-clause-one_fault c = λ p. let u = p.unwritten refl in at u.answer u.cau
   at (gives text) is taken last part word = x_unknown.no_text text (given_told one text (λ k asks. x_unknown.no_command k asks) is)
   at (tells n text) is taken last part word = two_words taken text last (once (codes "usagewrite") 2 (tells n text) last n text refl word) part.1.0
 
+-- no sink failed
+unfailed : (bytes : List ℕ) (puts : ℕ) (a : Answer) → Broken a (got bytes puts) (got write_fault_text 1) → ⊥
+unfailed bytes puts (gives text) h = let l : 1 ≤ 0 = h in omega (arith, l)
+unfailed bytes puts (tells n text) h = let l : 1 ≤ 0 = h in omega (arith, l)
+
+pub returns-clause-no_write_fault : goal.returns-clause-no_write_fault
+returns-clause-no_write_fault c = λ words made faults bytes puts p. let u = p.unwritten refl in unfailed bytes puts u.answer u.broken
+
 pub returns-clause-two_puts : goal.returns-clause-two_puts
 returns-clause-two_puts c = λ words made faults bytes few p.
     on_out words made faults (failed 1 bytes 2) (λ text taken is part. no_two_puts bytes few taken text part) (p.unwritten refl)
@@ -236,13 +282,23 @@ returns-clause-other_part c = λ p.
     no_usage taken (part.gained.0 ∙ ap (λ (t : List ℕ). take taken t) same))
     (p.unwritten refl)
 
+-- the call
+abbrev beside : Call
+beside = asking json_words (opens []) 1 (got (codes "sapic") 1) (failed 1 (codes "readwrite fault\n") 2)
+
+pub returns-clause-out_unwritten : goal.returns-clause-out_unwritten
+returns-clause-out_unwritten c = λ p. let u = p.unwritten refl in at u.answer u.broken u.taken u.last u.part where
+  at : (answer : Answer) → Broken answer beside.out beside.err → (taken : ℕ) (last : List ℕ) → Part answer taken last beside.out beside.err → ⊥
+  at (gives text) broken taken last part = let l : 1 ≤ 0 = broken in omega (arith, l)
+  at (tells n text) broken taken last part = some_out part.0.0
+
 pub returns-clause-asked_unwritten : goal.returns-clause-asked_unwritten
 returns-clause-asked_unwritten c = λ p.
     on_out version_words (begin (codes "r") ∷ []) 0 (failed 1 (codes "sapic") 1) (λ text taken is part. none_asked _ _ (given_asked _ text version_asks is)) (p.unwritten refl)
 
 -- the call
 abbrev other : Call
-other = asking json_words (begin (codes "s") ∷ []) 0 untouched (got memory_text 1)
+other = asking json_words (begin (codes "s") ∷ piece ∷ []) 0 untouched (got memory_text 1)
 
 pub returns-clause-other_run : goal.returns-clause-other_run
 returns-clause-other_run c = λ p. at (p.wanting refl) where
@@ -254,10 +310,10 @@ returns-clause-other_run c = λ p. at (p.wanting refl) where
   begun (asked_file k asks f) = no_request _ _ (subst (λ (m : Command). AskedFor other (for_file m)) (same k asks) f)
   begun (asked_run k asks next given_up) =
       let was = subst (λ (m : Command). WasRunGivenUp other m) (same k asks) given_up in
-      other_begun was.nexts [] was.asked
+      other_begun was.nexts (piece ∷ []) was.asked
   begun (asked_both k z asks next read) =
       let was = subst (λ (m : Command). WasRunRead other m z) (same k asks) read in
-      other_begun (length was.pieces) [] was.asked
+      other_begun (length was.pieces) (piece ∷ []) was.asked
 
   starved_none : (a : Answer) → Starved a other.out other.err → ⊥
   starved_none (gives text) h = let l : 1 ≤ 0 = h in omega (arith, l)
@@ -268,8 +324,28 @@ returns-clause-other_run c = λ p. at (p.wanting refl) where
   at (promised.while_put a taken last is h part l) = starved_none a h
 
 -- the call
+abbrev other_fetch : Call
+other_fetch = asking compile_words (fetch (codes "g") 1048576 ∷ []) 0 untouched (got memory_text 1)
+
+pub returns-clause-other_file : goal.returns-clause-other_file
+returns-clause-other_file c = λ p. at (p.wanting refl) where
+  begun : IsBegun other_fetch → ⊥
+  begun (asked_nothing none) = none_asked _ _ none
+  begun (asked_file k asks f) = other_fetched [] (subst (λ (m : Command). AskedFor other_fetch (for_file m)) (compile_same k asks) f)
+  begun (asked_run k asks next given_up) = subst (λ (m : Command). WasRunGivenUp other_fetch m) (compile_same k asks) given_up
+  begun (asked_both k z asks next read) = subst (λ (m : Command). WasRunRead other_fetch m z) (compile_same k asks) read
+
+  starved_none : (a : Answer) → Starved a other_fetch.out other_fetch.err → ⊥
+  starved_none (gives text) h = let l : 1 ≤ 0 = h in omega (arith, l)
+  starved_none (tells n text) h = let l : 1 ≤ 0 = h in omega (arith, l)
+
+  at : promised.Wanting other_fetch → ⊥
+  at (promised.before_all last b none word l) = begun b
+  at (promised.while_put a taken last is h part l) = starved_none a h
+
+-- the call
 abbrev behind : Files → Call
-behind held = telling held judge_words (fetches ++ begin (codes "r") ∷ []) untouched (got memory_text 1)
+behind held = telling held judge_words (fetches ++ opens (piece ∷ [])) untouched (got memory_text 1)
 
 module _ (one : OneReading) (held : Files) (is : files.get held (codes "f") ≡ Some []) where
   same_judged : (k : Command) → judge_words ≡ spelled k → k ≡ replay Judge (codes "f") (codes "r")
@@ -285,8 +361,8 @@ module _ (one : OneReading) (held : Files) (is : files.get held (codes "f") ≡ 
   never_begun : IsBegun (behind held) → ⊥
   never_begun (asked_nothing none) = none_asked _ _ none
   never_begun (asked_file k asks f) =
-      let made : fetches ++ begin (codes "r") ∷ [] ≡ fetches = subst (λ (m : Command). AskedFor (behind held) (for_file m)) (same_judged k asks) f in
-      let count : 2 ≡ 1 = ap (λ (rs : List Request). length rs) made in
+      let made : fetches ++ opens (piece ∷ []) ≡ fetches = subst (λ (m : Command). AskedFor (behind held) (for_file m)) (same_judged k asks) f in
+      let count : 3 ≡ 1 = ap (λ (rs : List Request). length rs) made in
       omega (arith, count)
   never_begun (asked_run k asks next given_up) = not_next (subst (λ (m : Command). IsRunNext (behind held) m) (same_judged k asks) next)
   never_begun (asked_both k z asks next read) = not_next (subst (λ (m : Command). IsRunNext (behind held) m) (same_judged k asks) next)
