@@ -1,19 +1,15 @@
 -- Processes that are spelled as they are printed.
 use Rattle.std.specs.Prelude.{◌≡◌, ℕ, false, All}
 use Rattle.sap_terms.specs.declared.fact.Fact.{Fact}
-use Rattle.sap_terms.specs.Message.{IsOver, AreOver}
+use Rattle.sap_terms.specs.Message.{IsOver, IsFactOver}
 use Rattle.sap_terms.specs.Signature.{Sig}
-use Rattle.sap_terms.specs.Tree.{Tree, variable, trees_of}
+use Rattle.sap_terms.specs.Tree.{Tree, variable}
 use Rattle.sap_grammar.specs.ByteWords.{IsName}
 use Rattle.sap_grammar.specs.Printable.{IsTidyVariable, IsPrintableTerm, IsPrintableFact}
 use Rattle.sap_process.specs.Action.{Action, new, out, send, input, receive, event, insert, delete, lock, unlock, embedded}
 use Rattle.sap_macro.specs.Written.{Written, nil, call, parallel, replicated, act, test, lookup}
 
--- the signature holds each symbol of the fact with its arity
-abbrev pub IsFactOver : Sig → Fact → Type 0
-IsFactOver g f = AreOver g (trees_of f.args)
-
--- so it is with the action, and what `new` binds is no constant
+-- the signature holds each symbol of the action with its arity, and what `new` binds is no constant
 abbrev pub IsActionOver : Sig → Action → Type 0
 IsActionOver g (new x) = IsTidyVariable g x.sort x.name
 IsActionOver g (out t) = IsOver g t

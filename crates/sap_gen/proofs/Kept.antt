@@ -8,12 +8,13 @@ use Rattle.sap_terms.specs.Tree.{Tree, variable, public, fresh, apply, Trees, no
 use Rattle.sap_terms.specs.Variables.{facts_vars, tree_vars, trees_vars}
 use Rattle.sap_terms.specs.declared.fact.Fact.{Fact}
 use Rattle.sap_terms.specs.declared.var.Var.{Var}
+use Rattle.sap_terms.specs.Message.{IsFactOver}
 use Rattle.sap_process.specs.Action.{out}
 use Rattle.sap_process.specs.Places.{place}
 use Rattle.sap_process.specs.Proc.{Proc, nil, parallel, replicated, act}
 use Rattle.sap_rewrite.specs.Match.{HaveOneSort}
 use Rattle.sap_rule.specs.Variables.{rule_vars}
-use Rattle.sap_rule.specs.WellMade.{IsFactOver, IsRightFact, IsRuleOver, IsWellShaped}
+use Rattle.sap_rule.specs.WellMade.{IsRightFact, IsRuleOver, IsWellShaped}
 use Rattle.sap_rule.specs.declared.rule.Rule.{Rule}
 use Rattle.sap_translate.specs.Members.{Member, here, later}
 use Rattle.sap_templates.specs.Places.{root, scoped_place_at}

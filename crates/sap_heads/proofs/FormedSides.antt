@@ -8,7 +8,7 @@ use Rattle.std.proofs.lemmas.List.Elements.{All-nil, All-cons, All-head, All-tai
 use Rattle.sap_terms.specs.Choice.{Choice, instance}
 use Rattle.sap_terms.specs.Equations.{equations}
 use Rattle.sap_terms.specs.Ground.{IsGround, AreGround}
-use Rattle.sap_terms.specs.Message.{IsOver, AreOver}
+use Rattle.sap_terms.specs.Message.{IsOver, AreOver, IsFactOver}
 use Rattle.sap_terms.specs.Modulo.{instance_fact, instance_facts, AreFormsOfFacts}
 use Rattle.sap_terms.specs.Normal.{IsNormal, IsNormalForm}
 use Rattle.sap_terms.specs.Signature.{Sig}
@@ -21,7 +21,7 @@ use Rattle.sap_share.specs.Env.{given}
 use Rattle.sap_share.specs.Shared.{Shared, tree_at, trees_at, AreBelow, Keeps}
 use Rattle.sap_share.specs.declared.env.Bound.{Bound}
 use Rattle.sap_sides.specs.Forms.{SomeLarge, args_of, HasLargeSide}
-use Rattle.sap_sides.specs.Messages.{IsSmallMessage, IsSmallMessageFact, IsFactOver, IsGroundFact}
+use Rattle.sap_sides.specs.Messages.{IsSmallMessage, IsSmallMessageFact, IsGroundFact}
 use Rattle.sap_sides.specs.SharedFacts.{fact_seen, AreFactsBelow}
 use Rattle.sap_sides.specs.declared.shared_fact.SharedFact.{SharedFact}
 use Rattle.sap_lines.specs.Faults.{EvaluateLarge, EvaluateSmall}

@@ -6,7 +6,7 @@ use Rattle.std.specs.Str.{bytes_eq}
 use Rattle.std.proofs.lemmas.List.Elements.{All-nil, All-cons, All-head, All-tail}
 use Rattle.std.proofs.lemmas.Slice.Eq.{bytes_eq-Decides}
 use Rattle.sap_terms.specs.Choice.{Choice, instance, instances}
-use Rattle.sap_terms.specs.Message.{IsOver, AreOver}
+use Rattle.sap_terms.specs.Message.{IsOver, AreOver, IsFactOver}
 use Rattle.sap_terms.specs.Modulo.{instance_fact, instance_facts}
 use Rattle.sap_terms.specs.Signature.{Sig}
 use Rattle.sap_terms.specs.Tree.{Tree, variable, public, fresh, apply, Trees, none, more, trees_of, list_of}
@@ -23,7 +23,7 @@ use Rattle.sap_process.specs.Instance.{action_instance}
 use Rattle.sap_macro.specs.Expansion.{Meaning, Plain, binding, by_names, entered, expanded, expansion, meaning_after, meaning_of, no_meaning, own_names, plain, plain_after, plain_bodies, put, same_name, unchanged, where_none, with_definition, with_plain, with_uses}
 use Rattle.sap_macro.specs.NewNames.{new_name, renamed, taken_after}
 use Rattle.sap_macro.specs.Written.{Written, nil, call, parallel, replicated, act, test, lookup, Definition}
-use Rattle.sap_draft.specs.Printable.{IsFactOver, IsActionOver, IsPrintableAct, IsPrintableAction, IsSpelledTerm, IsSpelledFact, IsSpelledAct, IsSpelledAction, IsSpelledWritten}
+use Rattle.sap_draft.specs.Printable.{IsActionOver, IsPrintableAct, IsPrintableAction, IsSpelledTerm, IsSpelledFact, IsSpelledAct, IsSpelledAction, IsSpelledWritten}
 use Rattle.sap_read.specs.Printable.{IsPrintableProcess}
 use Rattle.sap_read.proofs.PrintableSorts.{args_instances, pair_kept}
 use Rattle.sap_read.proofs.ProcessOver.{IsProcessOver}

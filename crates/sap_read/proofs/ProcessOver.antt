@@ -9,7 +9,7 @@ use Rattle.sap_terms.specs.declared.fact.Fact.{Fact}
 use Rattle.sap_terms.specs.declared.var.Sort.{Sort}
 use Rattle.sap_terms.specs.declared.var.Sort.TheVariants.{Msg, Fresh, Pub}
 use Rattle.sap_terms.specs.declared.var.Var.{Var}
-use Rattle.sap_terms.specs.Message.{IsOver, AreOver}
+use Rattle.sap_terms.specs.Message.{IsOver, AreOver, IsFactOver}
 use Rattle.sap_terms.specs.Signature.{Sig, arity_of}
 use Rattle.sap_terms.specs.Tree.{Tree, variable, public, fresh, apply, Trees, none, more, trees_of, list_of}
 use Rattle.sap_grammar.specs.TermGrammar.{IsConstant}
@@ -21,7 +21,7 @@ use Rattle.sap_process.specs.Heads.{facts_terms, head_terms, bound_as}
 use Rattle.sap_process.specs.Sites.{Site, Above, sites, scope_below, above_of}
 use Rattle.sap_process.specs.Flaws.{IsWellFormed, AppliesBadly, BindsConstant}
 use Rattle.sap_process.specs.declared.flaw.Flaw.TheVariants.{BadFunction}
-use Rattle.sap_draft.specs.Printable.{IsFactOver, IsActionOver}
+use Rattle.sap_draft.specs.Printable.{IsActionOver}
 use Rattle.sap_read.proofs.EachOf.{left, right}
 
 -- the signature holds each symbol of the process with its arity, and what `new` and `lookup` bind is no constant

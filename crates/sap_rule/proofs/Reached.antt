@@ -8,7 +8,7 @@ use Rattle.sap_terms.specs.Choice.{Choice, instance, instances}
 use Rattle.sap_terms.specs.Equations.{equations}
 use Rattle.sap_terms.specs.Ground.{IsGround, AreGround}
 use Rattle.sap_terms.specs.Laws.{NamesAreMessages}
-use Rattle.sap_terms.specs.Message.{IsMessage, IsMessageChoice, IsOver, AreOver, IsMessageFact, AreMessageFacts}
+use Rattle.sap_terms.specs.Message.{IsMessage, IsMessageChoice, IsOver, AreOver, IsMessageFact, AreMessageFacts, IsFactOver}
 use Rattle.sap_terms.specs.Modulo.{instance_facts, AreFormsOfFacts}
 use Rattle.sap_terms.specs.Normal.{IsNormalForm}
 use Rattle.sap_terms.specs.Signature.{Sig, HoldsBuiltins, arity_of}
@@ -18,7 +18,7 @@ use Rattle.sap_terms.specs.declared.var.Sort.TheVariants.{Msg}
 use Rattle.sap_rewrite.specs.Laws.{FormsAreMessages}
 use Rattle.sap_rule.specs.Messages.{TakenAreMessages, StepsKeepMessages, RunsReachMessages}
 use Rattle.sap_rule.specs.RuleSteps.{starts, further, makes_name, learns, owns, knows_public, applies, gives, uses}
-use Rattle.sap_rule.specs.WellMade.{IsWellMade, IsFactOver}
+use Rattle.sap_rule.specs.WellMade.{IsWellMade}
 use Rattle.sap_rule.proofs.Takings.{taken, added}
 
 -- the instance of a term over the signature is ground and over it

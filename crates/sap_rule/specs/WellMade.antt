@@ -1,8 +1,7 @@
 -- Rules that can be run: what is asked of their facts and variables.
 use Rattle.std.specs.Prelude.{◌≡◌, ◌⊎◌, ℕ, false, List, length, All, codes}
-use Rattle.sap_terms.specs.Message.{AreOver}
+use Rattle.sap_terms.specs.Message.{IsFactOver}
 use Rattle.sap_terms.specs.Signature.{Sig}
-use Rattle.sap_terms.specs.Tree.{trees_of}
 use Rattle.sap_terms.specs.declared.fact.Fact.{Fact}
 use Rattle.sap_rewrite.specs.Match.{HaveOneSort}
 use Rattle.sap_rule.specs.Variables.{rule_vars}
@@ -38,11 +37,7 @@ pub record IsActFact (f : Fact) : Type 0 where
   pub no_in : ¬ (f.name ≡ codes "In")
   pub no_out : ¬ (f.name ≡ codes "Out")
 
--- each symbol of the fact is held with its arity
-abbrev pub IsFactOver : Sig → Fact → Type 0
-IsFactOver g f = AreOver g (trees_of f.args)
-
--- so is each symbol of the rule
+-- each symbol of the rule is held with its arity
 pub record IsRuleOver (g : Sig) (r : Rule) : Type 0 where
   pub left : All (IsFactOver g) r.left
   pub acts : All (IsFactOver g) r.acts

@@ -2,9 +2,10 @@
 ghost use Rattle.std.specs.Prelude.{◌≡◌, ◌↔◌, ℕ, List, All, IfOk, IsTrue, true, false, Some, if◌then◌else◌};
 ghost use Rattle.std.specs.Str.{bytes_eq};
 ghost use Rattle.sap_terms.specs.NameMap.{value_at};
+ghost use Rattle.sap_terms.specs.Message.{IsFactOver};
 ghost use Rattle.sap_rewrite.specs.Match.{HaveOneSort};
 ghost use Rattle.sap_rule.specs.code.Checks.{IsOtherSort};
-ghost use Rattle.sap_rule.specs.WellMade.{IsSingle, IsKnowledge, IsLeftFact, IsRightFact, IsActFact, IsFactOver, IsRuleOver, IsWellShaped, IsWellMade};
+ghost use Rattle.sap_rule.specs.WellMade.{IsSingle, IsKnowledge, IsLeftFact, IsRightFact, IsActFact, IsRuleOver, IsWellShaped, IsWellMade};
 
 use crate::Rule;
 use crate::variables::vars_of;

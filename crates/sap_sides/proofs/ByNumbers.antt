@@ -15,7 +15,7 @@ use Rattle.sap_terms.specs.View.{tree-term}
 use Rattle.sap_terms.specs.declared.fact.Fact.{Fact}
 use Rattle.sap_terms.specs.declared.limits.TheConstants.{MOST_TERM_NODES}
 use Rattle.sap_terms.specs.declared.var.Var.{Var}
-use Rattle.sap_sides.specs.Messages.{IsFactOver}
+use Rattle.sap_terms.specs.Message.{IsFactOver}
 use Rattle.sap_share.specs.Env.{given, IsSmallForm, AreSmallForms, AreBound, bindings_of}
 use Rattle.sap_share.specs.Shared.{Shared, tree_at, AreBelow, Keeps}
 use Rattle.sap_share.specs.declared.env.Bound.{Bound}

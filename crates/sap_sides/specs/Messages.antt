@@ -2,7 +2,7 @@
 use Rattle.std.specs.Prelude.{◌≡◌, ◌≤◌, ℕ, Some, All}
 use Rattle.sap_terms.specs.Destructors.{AnyHasDestructor}
 use Rattle.sap_terms.specs.Ground.{AreGround}
-use Rattle.sap_terms.specs.Message.{IsMessage, AreOver}
+use Rattle.sap_terms.specs.Message.{IsMessage}
 use Rattle.sap_terms.specs.Piles.{Pile}
 use Rattle.sap_terms.specs.Signature.{Sig}
 use Rattle.sap_terms.specs.Tree.{Tree, node_count, trees_of}
@@ -27,10 +27,6 @@ HoldsSmallMessages g facts = (k : ℕ) (f : Fact) → fact_at facts k ≡ Some f
 -- no destructor stands in the fact
 abbrev pub HasNoDestructor : Sig → Fact → Type 0
 HasNoDestructor g f = AnyHasDestructor g (trees_of f.args) → ⊥
-
--- each symbol of the fact is held with its arity
-abbrev pub IsFactOver : Sig → Fact → Type 0
-IsFactOver g f = AreOver g (trees_of f.args)
 
 -- the fact's arguments are ground
 abbrev pub IsGroundFact : Fact → Type 0

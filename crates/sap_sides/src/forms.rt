@@ -3,10 +3,11 @@ ghost use Rattle.std.specs.Prelude.{◌<◌, length, map, All, IfOk, OnOk, IsErr
 ghost use Rattle.sap_terms.specs.Choice.{instance};
 ghost use Rattle.sap_terms.specs.Equations.{equations};
 ghost use Rattle.sap_terms.specs.Modulo.{instance_fact, instance_facts, IsFormOfFact, AreFormsOfFacts};
+ghost use Rattle.sap_terms.specs.Message.{IsFactOver};
 ghost use Rattle.sap_share.specs.Env.{given, AreSmallForms};
 ghost use Rattle.sap_share.specs.Shared.{AreBelow, Keeps};
 ghost use Rattle.sap_sides.specs.Forms.{SomeLarge, args_of, AreSides, HasLargeSide};
-ghost use Rattle.sap_sides.specs.Messages.{IsFactOver, IsGroundFact};
+ghost use Rattle.sap_sides.specs.Messages.{IsGroundFact};
 ghost use Rattle.sap_sides.specs.SharedFacts.{fact_seen, AreFactsBelow};
 
 use crate::SharedFact;

@@ -8,7 +8,7 @@ use Rattle.std.proofs.lemmas.List.Elements.{All-head, All-tail, All-nil, All-con
 use Rattle.sap_terms.specs.Choice.{Choice, fits_sort, instance, instances}
 use Rattle.sap_terms.specs.Equal.{IsTheoryEqual}
 use Rattle.sap_terms.specs.Ground.{IsGround, AreGround}
-use Rattle.sap_terms.specs.Message.{IsMessage, IsMessageChoice, IsOver, AreOver}
+use Rattle.sap_terms.specs.Message.{IsMessage, IsMessageChoice, IsOver, AreOver, IsFactOver}
 use Rattle.sap_terms.specs.Modulo.{instance_fact, instance_facts, AreEqualFacts, AreFormsOfFacts}
 use Rattle.sap_terms.specs.Normal.{IsNormalForm}
 use Rattle.sap_terms.specs.Signature.{Sig, HoldsBuiltins}
@@ -24,7 +24,6 @@ use Rattle.sap_rewrite.specs.Around.{HoldAll, outer_vars, all_outer_vars, Fittin
 use Rattle.sap_rewrite.specs.Large.{SomeSubterm, SomeSubtermWithin, itself, below, here, later, HasLargeForm}
 use Rattle.sap_rewrite.specs.Match.{AllSorted, Agrees, bound_vars}
 use Rattle.sap_rule.specs.Variables.{facts_outer_vars}
-use Rattle.sap_rule.specs.WellMade.{IsFactOver}
 use Rattle.sap_rule.specs.declared.rule.Rule.{Rule}
 use Rattle.sap_steps.specs.Faults.{FactHolds}
 use Rattle.sap_sides.specs.Fitting.{ArgsFit, FactsFit}

@@ -1,6 +1,6 @@
 -- Messages: the terms that runs send, store and show, and over which the variables of rules and formulas range.
 use Rattle.std.specs.Prelude.{◌≡◌, length, List, All, Some, IsTrue}
-use Rattle.sap_terms.specs.Tree.{Tree, variable, public, fresh, apply, Trees, none, more, list_of}
+use Rattle.sap_terms.specs.Tree.{Tree, variable, public, fresh, apply, Trees, none, more, list_of, trees_of}
 use Rattle.sap_terms.specs.Choice.{Choice, fits_sort}
 use Rattle.sap_terms.specs.Ground.{IsGround}
 use Rattle.sap_terms.specs.Normal.{IsNormal}
@@ -24,6 +24,10 @@ abbrev mutual
   pub AreOver : Sig → Trees → Type 0
   AreOver g none = Unit {0}
   AreOver g (more t ts) = IsOver g t × AreOver g ts
+
+-- so it is in each argument of the fact
+abbrev pub IsFactOver : Sig → Fact → Type 0
+IsFactOver g f = AreOver g (trees_of f.args)
 
 -- a ground normal term over the signature that may stand for a variable of the sort
 pub record IsMessage (g : Sig) (s : Sort) (t : Tree) : Type 0 where

@@ -5,7 +5,7 @@ use Rattle.std.proofs.lemmas.List.Elements.{All-nil, All-cons, All-head, All-tai
 use Rattle.sap_terms.specs.declared.builtins.Builtins.{Builtins}
 use Rattle.sap_terms.specs.declared.fact.Fact.{Fact}
 use Rattle.sap_terms.specs.declared.signature.Symbol.{Symbol}
-use Rattle.sap_terms.specs.Message.{IsOver, AreOver}
+use Rattle.sap_terms.specs.Message.{IsOver, AreOver, IsFactOver}
 use Rattle.sap_terms.specs.Signature.{Sig, arity_of, is_destructor_of, pairs_alone}
 use Rattle.sap_terms.specs.Tree.{Tree, variable, public, fresh, apply, Trees, none, more, trees_of}
 use Rattle.sap_formula.specs.Faults.{HasFault, HasNoFault}
@@ -15,7 +15,7 @@ use Rattle.sap_formula.specs.declared.fault.FormulaFlaw.{FormulaFlaw}
 use Rattle.sap_formula.specs.declared.fault.FormulaFlaw.TheVariants.{BadFunction, Destructor, Reserved, UnboundVar, Unguarded}
 use Rattle.sap_rule.specs.declared.rule.Rule.{Rule}
 use Rattle.sap_rule.specs.declared.theory.Theory.{Theory}
-use Rattle.sap_rule.specs.WellMade.{IsFactOver, IsRuleOver}
+use Rattle.sap_rule.specs.WellMade.{IsRuleOver}
 use Rattle.sap_grammar.specs.declared.limits.Limits.{Limits}
 use Rattle.sap_grammar.specs.Words.{Word}
 use Rattle.sap_grammar.specs.Cut.{Placed, first_line}

@@ -11,12 +11,12 @@ use Rattle.sap_terms.specs.declared.signature.Builtin.TheVariants.{Hashing, Symm
 use Rattle.sap_terms.specs.Tree.{Tree, variable, public, fresh, apply, Trees, none, more, trees_of}
 use Rattle.sap_terms.specs.Signature.{Sig, arity_of, find_symbol, has_builtin, pairs_alone, HoldsSymbols}
 use Rattle.sap_terms.specs.declared.builtins.Builtins.{Builtins}
-use Rattle.sap_terms.specs.Message.{IsOver, AreOver}
+use Rattle.sap_terms.specs.Message.{IsOver, AreOver, IsFactOver}
 use Rattle.sap_formula.specs.Form.{Form, RestrictionForm, LemmaForm, truth, falsity, action, equal, same_time, earlier, negation, both, either, implies, equivalent, every, exists}
 use Rattle.sap_formula.specs.declared.lemma.Mode.{Mode}
 use Rattle.sap_rule.specs.declared.rule.Rule.{Rule}
 use Rattle.sap_rule.specs.declared.theory.Theory.{Theory}
-use Rattle.sap_rule.specs.WellMade.{IsFactOver, IsRuleOver}
+use Rattle.sap_rule.specs.WellMade.{IsRuleOver}
 use Rattle.sap_grammar.specs.declared.limits.Limits.{Limits}
 use Rattle.sap_grammar.specs.Words.{Word, words_of}
 use Rattle.sap_grammar.specs.FactGrammar.{AreSomeFacts, AreFacts, facts_last, facts_more, facts_none, facts_some}

@@ -2,7 +2,7 @@ use Rattle.std.proofs.Common.{map, sym, subst, inr}
 use Rattle.std.specs.Prelude.{All}
 use Rattle.sap_terms.specs.Signature.{Sig}
 use Rattle.sap_terms.specs.declared.limits.TheConstants.{MOST_TERM_NODES}
-use Rattle.sap_sides.specs.Messages.{IsFactOver}
+use Rattle.sap_terms.specs.Message.{IsFactOver}
 use Rattle.sap_sides.specs.SharedFacts.{fact_seen}
 use Rattle.sap_sides.proofs.ByNumbers.{forms_kept, ground_facts_then, facts_large_before, forms_before, none_large_before}
 use Rattle.sap_sides.proofs.Kept.{keeps-both}
