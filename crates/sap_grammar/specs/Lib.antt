@@ -16,6 +16,7 @@ pub mod Printable
 pub mod TermBytes
 pub mod Printed
 pub mod Cut
+pub mod Parted
 pub mod Declarations
 pub mod Signatures
 pub mod Items

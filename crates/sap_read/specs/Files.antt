@@ -20,7 +20,8 @@ use Rattle.sap_read.specs.declared.file.File.{File}
 use Rattle.sap_read.specs.declared.fault.ReadFault.{ReadFault}
 use Rattle.sap_read.specs.declared.fault.ReadFault.TheVariants.{Lex as LexFault, Header, Syntax, Ill, Formula}
 use Rattle.sap_read.specs.Item.{Standing, bodies, statements}
-use Rattle.sap_grammar.specs.Cut.{Placed, placed, IsCut, IsHeader, last_line}
+use Rattle.sap_grammar.specs.Cut.{Placed, placed, IsHeader, last_line}
+use Rattle.sap_grammar.specs.Parted as parted
 use Rattle.sap_grammar.specs.Words.{words_of}
 use Rattle.sap_read.specs.ItemGrammar.{AreItems, IsFaultyFile}
 use Rattle.sap_read.specs.FileProcess.{IsExpanded, IsUnexpanded}
@@ -44,15 +45,11 @@ told_by f = record { name = f.name; signature = f.signature; process = proc f.pr
 
 -- the bytes are a file's tokens, the longest of MOST_FILE_NAME_BYTES
 abbrev pub AreTokens : List ℕ → List Token → Type 0
-AreTokens z ts = IsLexed MOST_FILE_NAME_BYTES 0 1 z (Ok ts)
+AreTokens = parted.AreTokens MOST_FILE_NAME_BYTES
 
 -- the file has this header, and these items as they are cut
-pub record IsParted (z : List ℕ) (ts : List Token) (x : List ℕ)
-    (cut : List (List Placed)) : Type 0 where
-  pub tokens : AreTokens z ts
-  pub rest : List Placed
-  pub header : IsHeader x (placed z ts) rest
-  pub items : IsCut rest cut
+abbrev pub IsParted : List ℕ → List Token → List ℕ → List (List Placed) → Type 0
+IsParted = parted.IsParted MOST_FILE_NAME_BYTES
 
 -- this is the expansion of its process, where these are its tokens and items
 abbrev pub IsFileProcess : List ℕ → List Token → List Standing → Proc → Type 0

@@ -6,7 +6,8 @@ use Rattle.sap_text.specs.Tokens.{IsLexed}
 use Rattle.sap_terms.specs.Signature.{pairs_alone}
 use Rattle.sap_terms.specs.declared.limits.TheConstants.{MOST_THEORY_NAME_BYTES}
 use Rattle.sap_rule.specs.declared.theory.Theory.{Theory}
-use Rattle.sap_grammar.specs.Cut.{Placed, placed, IsCut, IsHeader, last_line}
+use Rattle.sap_grammar.specs.Cut.{Placed, placed, IsHeader, last_line}
+use Rattle.sap_grammar.specs.Parted as parted
 use Rattle.sap_grammar.specs.Items.{Standing}
 use Rattle.sap_grammar.specs.Signatures.{clash_from}
 use Rattle.sap_theory.specs.declared.fault.TheoryFault.{TheoryFault}
@@ -18,15 +19,11 @@ use Rattle.sap_theory.specs.TheoryCauses.{IsRefused, AreAccepted}
 
 -- the bytes are a theory's tokens, the longest of MOST_THEORY_NAME_BYTES
 abbrev pub AreTokens : List ℕ → List Token → Type 0
-AreTokens z ts = IsLexed MOST_THEORY_NAME_BYTES 0 1 z (Ok ts)
+AreTokens = parted.AreTokens MOST_THEORY_NAME_BYTES
 
 -- the theory has this header, and these items as they are cut
-pub record IsParted (z : List ℕ) (ts : List Token) (x : List ℕ)
-    (cut : List (List Placed)) : Type 0 where
-  pub tokens : AreTokens z ts
-  pub rest : List Placed
-  pub header : IsHeader x (placed z ts) rest
-  pub items : IsCut rest cut
+abbrev pub IsParted : List ℕ → List Token → List ℕ → List (List Placed) → Type 0
+IsParted = parted.IsParted MOST_THEORY_NAME_BYTES
 
 -- the theory of this name with these items
 abbrev pub theory_of : List ℕ → List (Standing TheoryItem) → Theory
