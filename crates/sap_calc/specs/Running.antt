@@ -55,6 +55,12 @@ pub record IsDone (r z : Running) (step : PStep) (label : List Fact) : Type 0 wh
 abbrev pub IsDenied : Running → PStep → PFault → Type 0
 IsDenied r step fault = IsRefused r.sig (configuration r) (terms_of r.known) step fault
 
+-- the line with this number is refused for this cause, which isn't want of memory
+pub record IsDeniedAt (r : Running) (step : PStep) (number n : ℕ) (fault : PFault) : Type 0 where
+  pub same : n ≡ number
+  pub denied : IsDenied r step fault
+  pub cause : ¬ (fault ≡ Mem)
+
 -- the thread's line `found` is possible, and finds this value
 pub record WouldFind (r : Running) (t : ℕ) (v : Tree) : Type 0 where
   pub key : Tree

@@ -1,11 +1,12 @@
 -- Runs that are drawn line by line.
 use Rattle.std.proofs.Common.{◌≡◌, ◌≤◌, ◌+◌, ℕ, List, [], ◌∷◌, ◌++◌, fold, length, take, drop, Some, refl, sym, ap, ◌∙◌, slice_get, zero, suc, add-one, arith}
 use Rattle.std.proofs.Common.{length-append}
-use Rattle.sap_calc.specs.Running.{Running, configuration}
+use Rattle.sap_calc.specs.Running.{Running, configuration, IsDeniedAt}
 use Rattle.sap_deduce.specs.Entries.{terms_of}
 use Rattle.sap_lines.specs.Answers.{MatchesExactly, RunsMatchExactly}
 use Rattle.sap_lines.specs.Runs.{SmallProcessRunsAreLegal}
 use Rattle.sap_lines.specs.declared.fault.PFault.{PFault}
+use Rattle.sap_lines.specs.FirstRefused.{IsFirstRefusedOfProcess}
 use Rattle.sap_process.specs.Configuration.{initial}
 use Rattle.sap_process.specs.Proc.{Proc}
 use Rattle.sap_process.specs.Ready.{IsReady}
@@ -16,7 +17,6 @@ use Rattle.sap_tell.specs.ThreadPaths.{paths_from, paths_after, thread_paths}
 use Rattle.sap_tell.specs.Told.{IsToldLine}
 use Rattle.sap_tell.specs.ToldLaws.{ToldRunsAreLegal}
 use Rattle.sap_tell.specs.ToldText.{actor_text, line_text, outcomes_text, seen_texts}
-use Rattle.sap_teller.specs.Telling.{IsDeniedAt, IsFirstRefusedLine}
 use Rattle.sap_teller.specs.declared.telling.Along.{Along}
 use Rattle.sap_chart.specs.Chart as drawn
 use Rattle.sap_chart.specs.Chart.{IsChart, IsCharted, IsDrawnRun}
@@ -104,7 +104,7 @@ module _ (legal : ToldRunsAreLegal) (g : Sig) (p : Proc) where
   cut_at (y ∷ ys) (suc k) x h = let rest = rw (add-one k) at (cut_at ys k x h) in rw (add-one (suc k)) (ap (λ zs. y ∷ zs) rest)
 
   -- the first line that is refused
-  pub first_refused : (run : List PStep) (k : ℕ) (step : PStep) → slice_get run k ≡ Some step → (z : Running) (a : Along) (d : Drawing) → IsDrawnSoFar g p (take k run) z a d → (n : ℕ) (fault : PFault) → IsDeniedAt z step (a.lines + 1) n fault → IsFirstRefusedLine g p run n fault
+  pub first_refused : (run : List PStep) (k : ℕ) (step : PStep) → slice_get run k ≡ Some step → (z : Running) (a : Along) (d : Drawing) → IsDrawnSoFar g p (take k run) z a d → (n : ℕ) (fault : PFault) → IsDeniedAt z step (a.lines + 1) n fault → IsFirstRefusedOfProcess g p run n fault
   first_refused run k step at z a d h n fault r = record {
     before = take k run;
     line = step;

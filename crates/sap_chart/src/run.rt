@@ -1,25 +1,25 @@
 //! Runs that are drawn.
 ghost use Rattle.std.specs.Prelude.{◌≡◌, ◌+◌, ◌<◌, ℕ, Err, IfOk, OnOk, if◌then◌else◌, length, nat_lt};
-ghost use Rattle.sap_calc.specs.Running.{configuration};
+ghost use Rattle.sap_calc.specs.Running.{configuration, IsDeniedAt};
 ghost use Rattle.sap_deduce.specs.Entries.{terms_of};
 ghost use Rattle.sap_lines.specs.Answers.{MatchesExactly};
 ghost use Rattle.sap_lines.specs.declared.fault.PFault.{PFault as Fault};
+ghost use Rattle.sap_lines.specs.FirstRefused.{IsFirstRefusedOfProcess};
 ghost use Rattle.sap_process.specs.Proc.{proc};
 ghost use Rattle.sap_process.specs.Ready.{IsReady};
 ghost use Rattle.sap_terms.specs.Signature.{HoldsBuiltins};
-ghost use Rattle.sap_teller.specs.Telling.{IsDeniedAt, IsFirstRefusedLine};
-ghost use Rattle.sap_teller.specs.declared.told_run.Untold.TheVariants as untold;
+ghost use Rattle.sap_lines.specs.declared.at.At.TheVariants.{Step as StepOf};
 ghost use Rattle.sap_chart.specs.Chart.{IsCharted};
 ghost use Rattle.sap_chart.specs.code.Drawing.{IsNextDrawn};
 
 use crate::chart::Drawing;
 use crate::figure::figure_of;
 use sap_calc::Config;
-use sap_lines::{limit_excludes, runs_match_exactly};
+use sap_lines::{At, at_line, limit_excludes, runs_match_exactly};
 use sap_process::Process;
 use sap_runs::{PStep, PSteps};
 use sap_tell::legal_runs_are_told;
-use sap_teller::{Along, Untold, at_line, started, tell_line_apart};
+use sap_teller::{Along, started, tell_line_apart};
 use sap_terms::{Mem, Signature, Trace};
 use sap_text::Text;
 use std::alloc::Global;
@@ -39,13 +39,13 @@ fn draw_next(
     at: &mut Along,
     step: &PStep,
     drawing: &mut Drawing,
-) -> Result<(), Untold>
+) -> Result<(), At>
     requires sig { config.old.sig ≡ sig.now }
     requires exact { MatchesExactly sig.now (configuration config.old) (terms_of config.old.known) }
     requires facts { at.old.facts ≡ length config.old.facts }
     requires lines { at.old.lines < u64.MAX }
     ensures ok { OnOk result (IsNextDrawn config.old config.new at.old at.new drawing.old drawing.new step.now) }
-    ensures refused { (n : ℕ) (fault : Fault) → result ≡ Err (untold.Line n fault)
+    ensures refused { (n : ℕ) (fault : Fault) → result ≡ Err (StepOf n fault)
         → IsDeniedAt config.old step.now (at.old.lines + 1) n fault }
 {
     let number = at.lines + 1;
@@ -72,7 +72,7 @@ fn draw_next(
     }
 }
 
-/// Puts the chart of a run of a process last, each line done once; gives what the run shows. `Line` names the first illegal line, and
+/// Puts the chart of a run of a process last, each line done once; gives what the run shows. `Step` names the first illegal line, and
 /// then the text is as it was. Its time goes with the process's heads, the lines and the text. It recurses as deep as the process and
 /// the terms of process and run.
 pub fn chart_run(
@@ -81,13 +81,13 @@ pub fn chart_run(
     p: &Process,
     run: &PSteps,
     text: &mut Text,
-) -> Result<Trace, Untold>
+) -> Result<Trace, At>
     requires builtins { HoldsBuiltins sig.now }
     requires ready { IsReady sig.now (proc p.now) }
     ensures charted { IfOk result (λ trace. IsCharted sig.now (proc p.now) run.now trace text.old text.new) }
-    ensures refused { (n : ℕ) (fault : Fault) → result ≡ Err (untold.Line n fault)
-        → IsFirstRefusedLine sig.now (proc p.now) run.now n fault }
-    ensures kept { (n : ℕ) (fault : Fault) → result ≡ Err (untold.Line n fault) → text.new ≡ text.old }
+    ensures refused { (n : ℕ) (fault : Fault) → result ≡ Err (StepOf n fault)
+        → IsFirstRefusedOfProcess sig.now (proc p.now) run.now n fault }
+    ensures kept { (n : ℕ) (fault : Fault) → result ≡ Err (StepOf n fault) → text.new ≡ text.old }
 {
     limit_excludes();
     runs_match_exactly();

@@ -14,14 +14,15 @@ use Rattle.sap_runs.specs.declared.rule_step.RStep.{RStep}
 use Rattle.sap_lines.specs.Faults.{IsRefused}
 use Rattle.sap_lines.specs.Runs.{IsLegalProcessRun}
 use Rattle.sap_lines.specs.declared.fault.PFault.{PFault}
+use Rattle.sap_lines.specs.FirstRefused.{IsFirstRefusedOfProcess}
 use Rattle.sap_calc.specs.Replays.{AreDone, DoneLinesAreLegal}
-use Rattle.sap_calc.specs.Running.{Running, configuration}
+use Rattle.sap_calc.specs.Running.{Running, configuration, IsDeniedAt}
 use Rattle.sap_forward.specs.Answered.{Draws}
-use Rattle.sap_forward.specs.Converted.{IsConvertedToRules, IsFirstRefusedOfProcess, IsShownByLines}
+use Rattle.sap_forward.specs.Converted.{IsConvertedToRules, IsShownByLines}
 use Rattle.sap_rule_lines.specs.Least.{names_drawn}
 use Rattle.sap_rule_lines.specs.RuleLines.{head_for, init_line}
 use Rattle.sap_forward.specs.code.Begun.{IsBegun, GoesOn, EndsConverted}
-use Rattle.sap_forward.specs.code.Taken.{AreDoneUntil, IsTaken, IsShown, IsRefusedAt}
+use Rattle.sap_forward.specs.code.Taken.{AreDoneUntil, IsTaken, IsShown}
 use Rattle.sap_forward.specs.declared.desk.Desk.{Desk}
 use Rattle.sap_forward.proofs.Going.{draws_among}
 
@@ -42,7 +43,7 @@ take_all (x ∷ xs) (suc k) h = ap (λ zs. x ∷ zs) (take_all xs k (omega arith
 
 -- a line that is refused behind a legal run is the first
 pub first_refused : {g : Sig} {q : Proc} {before : List PStep} {c : Config} {es : List Tree} {tr : Trace} {ms : List Mark} → IsLegalProcessRun g HasFewNodes q before c es tr ms → (run after : List PStep) (step : PStep) (r : Running) → run ≡ before ++ step ∷ after
-    → r.sig ≡ g → configuration r ≡ c → terms_of r.known ≡ es → (number n : ℕ) (fault : PFault) → number ≡ length before + 1 → IsRefusedAt r step number n fault → IsFirstRefusedOfProcess g q run n fault
+    → r.sig ≡ g → configuration r ≡ c → terms_of r.known ≡ es → (number n : ℕ) (fault : PFault) → number ≡ length before + 1 → IsDeniedAt r step number n fault → IsFirstRefusedOfProcess g q run n fault
 first_refused {g = g} {before = before} {c = c} {es = es} {tr = tr} {ms = ms} legal run after step r cut sig conf known number n fault counts h = record {
   before = before;
   line = step;
@@ -72,7 +73,7 @@ begun_at {g = g} {q = q} {drawn = drawn} {lines = lines} {r = r} {z = z} {d = d}
     subst (λ x. IsBegun g q drawn lines z e x) written (subst (λ x. IsBegun g q drawn lines z x before) desks (subst (λ x. IsBegun g q drawn lines x d before) configs b))
 
 pub refused_here : {g : Sig} {q : Proc} {drawn : List ℕ} {r : Running} {d : Desk} {written : List RStep} (run : List PStep) (k n : ℕ) (step : PStep) (fault : PFault) → slice_get run k ≡ Some step → IsBegun g q drawn (take k run) r d written
-    → IsRefusedAt r step (k + 1) n fault → IsFirstRefusedOfProcess g q run n fault
+    → IsDeniedAt r step (k + 1) n fault → IsFirstRefusedOfProcess g q run n fault
 refused_here {r = r} run k n step fault got b h =
     first_refused b.legal run (drop (k + 1) run) step r (cut_got run k step got) b.sig refl refl (k + 1) n fault (ap (λ m. m + 1) (sym (length_before run k step got))) h
 

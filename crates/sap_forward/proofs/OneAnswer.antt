@@ -17,8 +17,9 @@ use Rattle.sap_lines.specs.Lines.{IsProcessLine}
 use Rattle.sap_lines.specs.Runs.{IsLegalProcessRun, SmallProcessLinesAreLines, SmallProcessRunsAreLegal}
 use Rattle.sap_lines.specs.declared.fault.PFault.{PFault}
 use Rattle.sap_lines.specs.declared.fault.PFault.TheVariants.{Mem}
+use Rattle.sap_lines.specs.FirstRefused.{IsFirstRefusedOfProcess}
 use Rattle.sap_forward.specs.Answers.{EachIsLegalOrRefused, LegalIsNotRefused, HasOneTrace, HasOneFirst}
-use Rattle.sap_forward.specs.Converted.{IsShownByLines, IsFirstRefusedOfProcess}
+use Rattle.sap_forward.specs.Converted.{IsShownByLines}
 
 -- lists that are put together at the end
 

@@ -5,7 +5,8 @@ use Rattle.sap_terms.specs.Trace.{Trace}
 use Rattle.sap_process.specs.Proc.{Proc}
 use Rattle.sap_runs.specs.declared.process_step.PStep.{PStep}
 use Rattle.sap_lines.specs.declared.fault.PFault.{PFault}
-use Rattle.sap_forward.specs.Converted.{IsShownByLines, IsFirstRefusedOfProcess}
+use Rattle.sap_lines.specs.FirstRefused.{IsFirstRefusedOfProcess}
+use Rattle.sap_forward.specs.Converted.{IsShownByLines}
 
 -- each run is legal within the limit, or one line of it is the first that is refused
 abbrev pub EachIsLegalOrRefused : Sig → Proc → Type 0

@@ -1,5 +1,5 @@
 -- What the conversion of a written run of a process answers.
-use Rattle.std.specs.Prelude.{◌≡◌, ◌+◌, ℕ, List, ◌∷◌, ◌++◌, length}
+use Rattle.std.specs.Prelude.{◌≡◌, List, length}
 use Rattle.sap_terms.specs.Signature.{Sig}
 use Rattle.sap_terms.specs.Trace.{Trace}
 use Rattle.sap_terms.specs.Tree.{Tree}
@@ -9,10 +9,7 @@ use Rattle.sap_runs.specs.Limits.{HasFewNodes}
 use Rattle.sap_runs.specs.Marks.{Mark}
 use Rattle.sap_runs.specs.declared.process_step.PStep.{PStep}
 use Rattle.sap_runs.specs.declared.rule_step.RStep.{RStep}
-use Rattle.sap_lines.specs.Faults.{IsRefused}
 use Rattle.sap_lines.specs.Runs.{IsLegalProcessRun}
-use Rattle.sap_lines.specs.declared.fault.PFault.{PFault}
-use Rattle.sap_lines.specs.declared.fault.PFault.TheVariants.{Mem}
 use Rattle.sap_translate.specs.LineCounts.{back_count}
 use Rattle.sap_forward.specs.Counted.{rule_count}
 use Rattle.sap_forward.specs.Opposite.{IsOppositeRuleRun}
@@ -39,19 +36,3 @@ pub record IsConvertedToRules (g : Sig) (start : Proc) (lines : List PStep)
   pub back : back_count rule_lines ≡ length lines
   -- no name in what they write down and bind comes from elsewhere than the process and its lines
   pub names : BringNoName start lines rule_lines
-
--- the lines before the one with this number, from 1, are such a run, and that one is refused for this cause
-pub record IsFirstRefusedOfProcess (g : Sig) (start : Proc) (lines : List PStep) (number : ℕ)
-    (fault : PFault) : Type 0 where
-  pub before : List PStep
-  pub line : PStep
-  pub after : List PStep
-  pub cut : lines ≡ before ++ line ∷ after
-  pub counts : number ≡ length before + 1
-  pub config : Config
-  pub entries : List Tree
-  pub trace : Trace
-  pub marks : List Mark
-  pub legal : IsLegalProcessRun g HasFewNodes start before config entries trace marks
-  pub refused : IsRefused g config entries line fault
-  pub cause : ¬ (fault ≡ Mem)

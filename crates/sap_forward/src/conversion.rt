@@ -4,17 +4,19 @@ ghost use Rattle.sap_locks.specs.Annotation.{IsAnnotation};
 ghost use Rattle.sap_process.specs.Proc.{Proc, node_count, proc};
 ghost use Rattle.sap_process.specs.Ready.{IsReady};
 ghost use Rattle.sap_terms.specs.Signature.{HoldsBuiltins, Sig};
-ghost use Rattle.sap_forward.specs.Converted.{IsConvertedToRules, IsFirstRefusedOfProcess};
+ghost use Rattle.sap_forward.specs.Converted.{IsConvertedToRules};
 ghost use Rattle.sap_forward.specs.Answered.{first_rule_tables};
 ghost use Rattle.sap_rule_lines.specs.Least.{names_drawn};
 ghost use Rattle.sap_forward.specs.code.Desk.{Keeps};
 ghost use Rattle.sap_translate.specs.relation.Agents.{running};
 ghost use Rattle.sap_translate.specs.relation.Envs.{no_env};
 ghost use Rattle.sap_forward.specs.code.Begun.{AreTaken, AreTakenUntil, Begins, EndsConverted, GoesOn};
-ghost use Rattle.sap_forward.specs.code.Taken.{IsFoundBy, IsRefusedAt, IsTaken};
-ghost use Rattle.sap_forward.specs.declared.at.At.TheVariants.{Step as StepOf};
+ghost use Rattle.sap_forward.specs.code.Taken.{IsFoundBy, IsTaken};
+ghost use Rattle.sap_lines.specs.declared.at.At.TheVariants.{Step as StepOf};
 ghost use Rattle.sap_lines.specs.declared.fault.PFault.{PFault as Fault};
+ghost use Rattle.sap_lines.specs.FirstRefused.{IsFirstRefusedOfProcess};
 ghost use Rattle.sap_read.specs.Files.{IsRunnable, told_by};
+ghost use Rattle.sap_calc.specs.Running.{IsDeniedAt};
 
 use crate::At;
 use crate::desk::Desk;
@@ -78,7 +80,7 @@ fn take(
 ) -> Result<(), At>
     ensures ok { OnOk result (IsTaken config.old config.new desk.old desk.new step.now lines.old lines.new) }
     ensures refused { (n : ℕ) (fault : Fault) → result ≡ Err (StepOf n fault)
-        → IsRefusedAt config.old step.now number n fault }
+        → IsDeniedAt config.old step.now number n fault }
 {
     let found = found_by(alloc, config, step)?;
     follow(alloc, config, step, number)?;

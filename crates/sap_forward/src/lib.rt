@@ -2,7 +2,6 @@
 #![tactic(auto)]
 
 mod adversary;
-mod at;
 mod conversion;
 mod desk;
 mod embedding;
@@ -16,7 +15,7 @@ mod seats;
 mod splitting;
 mod trace;
 
-pub use at::At;
+pub use sap_lines::At;
 pub use conversion::to_rules;
 pub use laws::{
     legal_runs_have_lines_opposite, lines_are_answered, names_are_least,

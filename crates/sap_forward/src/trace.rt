@@ -4,35 +4,21 @@ ghost use Rattle.sap_calc.specs.Replays.{AreDone};
 ghost use Rattle.sap_process.specs.Configuration.{initial};
 ghost use Rattle.sap_terms.specs.Trace.{shown};
 ghost use Rattle.sap_process.specs.Proc.{proc};
-ghost use Rattle.sap_calc.specs.Running.{configuration, IsDone};
-ghost use Rattle.sap_forward.specs.Converted.{IsFirstRefusedOfProcess, IsShownByLines};
-ghost use Rattle.sap_forward.specs.code.Taken.{AreDoneUntil, IsRefusedAt, IsShown};
-ghost use Rattle.sap_forward.specs.declared.at.At.TheVariants.{Step as StepOf};
+ghost use Rattle.sap_calc.specs.Running.{configuration, IsDone, IsDeniedAt};
+ghost use Rattle.sap_forward.specs.Converted.{IsShownByLines};
+ghost use Rattle.sap_forward.specs.code.Taken.{AreDoneUntil, IsShown};
 ghost use Rattle.sap_lines.specs.declared.fault.PFault.{PFault as Fault};
-ghost use Rattle.sap_lines.specs.declared.fault.PFault.TheVariants.{Mem as OutOfMemory};
+ghost use Rattle.sap_lines.specs.declared.at.At.TheVariants.{Step as StepOf};
+ghost use Rattle.sap_lines.specs.FirstRefused.{IsFirstRefusedOfProcess};
 ghost use Rattle.sap_read.specs.Files.{IsRunnable, told_by};
 
-use crate::At;
 use sap_calc::{Config, replays_are_legal};
-use sap_lines::PFault;
+use sap_lines::{At, at_line};
 use sap_locks::annotations_are_ready;
 use sap_read::File;
 use sap_runs::{PStep, PSteps};
 use sap_terms::{FactList, Mem, Trace};
 use std::alloc::Global;
-
-// The cause at the line with this number, from 1.
-fn at_line(number: u64, fault: PFault) -> At
-    ensures { (n : ℕ) (e : Fault) → result ≡ StepOf n e → (n ≡ number) × (e ≡ fault) × ¬ (e ≡ OutOfMemory) }
-{
-    match fault {
-        PFault::Mem => At::Mem,
-        other => At::Step {
-            step: number,
-            fault: other,
-        },
-    }
-}
 
 // Does one line of the process, the one with this number from 1, and gives its label.
 pub(crate) fn follow(
@@ -43,7 +29,7 @@ pub(crate) fn follow(
 ) -> Result<FactList, At>
     ensures ok { IfOk result (IsDone config.old config.new step.now) }
     ensures refused { (n : ℕ) (fault : Fault) → result ≡ Err (StepOf n fault)
-        → IsRefusedAt config.old step.now number n fault }
+        → IsDeniedAt config.old step.now number n fault }
 {
     match config.step(alloc, step) {
         Ok(label) => Ok(label),
@@ -71,7 +57,7 @@ fn show_line(
 ) -> Result<(), At>
     ensures ok { OnOk result (IsShown config.old config.new step.now trace.old trace.new) }
     ensures refused { (n : ℕ) (fault : Fault) → result ≡ Err (StepOf n fault)
-        → IsRefusedAt config.old step.now number n fault }
+        → IsDeniedAt config.old step.now number n fault }
 {
     let label = follow(alloc, config, step, number)?;
     Ok(show(trace, label)?)

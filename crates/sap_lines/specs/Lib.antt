@@ -2,6 +2,7 @@ pub mod Lines
 pub mod Runs
 pub mod NamesPass
 pub mod Faults
+pub mod FirstRefused
 pub mod Answers
 pub mod Sorts
 pub mod OtherEntries

@@ -1,12 +1,14 @@
 //! What written lines of processes mean, when they are refused, and the runs that they are.
 #![tactic(auto)]
 
+mod at;
 mod by_hand;
 mod fault;
 mod form;
 mod laws;
 mod place;
 
+pub use at::{At, at_line};
 pub use by_hand::marks_of_runs_by_hand;
 pub use fault::PFault;
 pub use form::{Form, form_of};

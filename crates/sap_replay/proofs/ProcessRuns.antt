@@ -16,7 +16,7 @@ use Rattle.sap_lines.specs.Faults.{IsRefused}
 use Rattle.sap_lines.specs.Lines.{IsProcessLine}
 use Rattle.sap_lines.specs.Runs.{IsLegalProcessRun, starts, further, SmallProcessLinesAreLines, SmallProcessRunsAreLegal}
 use Rattle.sap_lines.specs.declared.fault.PFault.{PFault}
-use Rattle.sap_forward.specs.Converted.{IsFirstRefusedOfProcess}
+use Rattle.sap_lines.specs.FirstRefused.{IsFirstRefusedOfProcess}
 use Rattle.sap_replay.proofs.Ends.{same_ends, at_end, none_inside}
 
 -- the laws of lines of processes

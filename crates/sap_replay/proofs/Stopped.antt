@@ -4,9 +4,10 @@ use Rattle.sap_back.specs.Converted as back
 use Rattle.sap_back.specs.declared.back_at.BackAt.{BackAt}
 use Rattle.sap_back.specs.declared.back_at.BackAt.TheVariants as rules
 use Rattle.sap_forward.specs.Converted as forward
-use Rattle.sap_forward.specs.declared.at.At.{At}
-use Rattle.sap_forward.specs.declared.at.At.TheVariants as process
+use Rattle.sap_lines.specs.declared.at.At.{At}
+use Rattle.sap_lines.specs.declared.at.At.TheVariants as process
 use Rattle.sap_lines.specs.declared.fault.PFault.{PFault}
+use Rattle.sap_lines.specs.FirstRefused.{IsFirstRefusedOfProcess}
 use Rattle.sap_read.specs.Files.{FileContent}
 use Rattle.sap_restrict.specs.declared.which.Which.{Which}
 use Rattle.sap_rule.specs.declared.theory.Theory.{Theory}
@@ -24,46 +25,17 @@ use Rattle.sap_runs.specs.declared.process_step.PStep.{PStep}
 use Rattle.sap_runs.specs.declared.rule_step.RStep.{RStep}
 use Rattle.sap_steps.specs.declared.fault.RFault.{RFault}
 use Rattle.sap_refusals.specs.RunFaultTexts.{at_step, process_fault_text, rule_fault_text, broken_text, run_refusal_text, run_refused_line}
-use Rattle.sap_teller.specs.Telling.{IsFirstRefusedLine}
-use Rattle.sap_teller.specs.declared.told_run.Untold.{Untold}
-use Rattle.sap_teller.specs.declared.told_run.Untold.TheVariants as untold
 use Rattle.sap_replay.specs.RunRefusals.{IsIllegal, IsIllegalOfTheory, of_process, of_rules, breaks, of_theory, no_run, illegal, IsLineOf, IsRunRefusal}
 use Rattle.sap_replay.specs.code.Checked.{IsStopped}
-use Rattle.sap_replay.specs.code.Refused.{IsAtLine, IsBackAtLine, IsCheckLine, IsUntoldLine}
+use Rattle.sap_replay.specs.code.Refused.{IsAtLine, IsBackAtLine, IsCheckLine}
 
 -- a line that says where a run of the process stops refuses it
 pub process_stops : (f : FileContent) (lines : List PStep) (at : At) (line : List ℕ) → IsAtLine at line
-    → ((step : ℕ) (fault : PFault) → at ≡ process.Step step fault → forward.IsFirstRefusedOfProcess f.signature f.process lines step fault)
+    → ((step : ℕ) (fault : PFault) → at ≡ process.Step step fault → IsFirstRefusedOfProcess f.signature f.process lines step fault)
     → IsLineOf (IsIllegal f (run.Process lines)) line
 process_stops f lines process.Mem line is refused = absurd is
 process_stops f lines (process.Step step fault) line is refused =
     record { why = at_step step (process_fault_text fault); cause = of_process step fault (refused step fault refl); layout = is }
-
--- so does one that says where a run that would be told stops
-pub untold_stops : (f : FileContent) (lines : List PStep) (why : Untold) (line : List ℕ) → IsUntoldLine why line
-    → ((number : ℕ) (fault : PFault) → why ≡ untold.Line number fault → IsFirstRefusedLine f.signature f.process lines number fault)
-    → IsLineOf (IsIllegal f (run.Process lines)) line
-untold_stops f lines untold.Mem line is refused = absurd is
-untold_stops f lines (untold.Line number fault) line is refused =
-    let r = refused number fault refl in
-    record {
-      why = at_step number (process_fault_text fault);
-      cause = of_process number fault (record {
-        before = r.before;
-        line = r.line;
-        after = r.after;
-        cut = r.cut;
-        counts = r.counts;
-        config = r.config;
-        entries = r.entries;
-        trace = r.trace;
-        marks = r.marks;
-        legal = r.legal;
-        refused = r.refused;
-        cause = r.cause;
-      });
-      layout = is;
-    }
 
 -- so does one that says where a run of rules stops
 pub rules_stop : (f : FileContent) (lines : List RStep) (at : BackAt) (line : List ℕ) → IsBackAtLine at line

@@ -2,6 +2,7 @@
 use Rattle.std.specs.Prelude.{◌≡◌, ◌+◌, ℕ, List, ◌∷◌, ◌++◌, length, Ok, Err}
 use Rattle.sap_back.specs.Converted as back
 use Rattle.sap_forward.specs.Converted as forward
+use Rattle.sap_lines.specs.FirstRefused.{IsFirstRefusedOfProcess}
 use Rattle.sap_lines.specs.declared.fault.PFault.{PFault}
 use Rattle.sap_read.specs.Files.{FileContent}
 use Rattle.sap_restrict.specs.declared.which.Which.{Which}
@@ -26,7 +27,7 @@ use Rattle.sap_outside.specs.RunPieces.{IsRunAnswer}
 -- one of its rules, one that is refused, or behind which one of the seven restrictions is false.
 pub data IsIllegal (f : FileContent) : Run → List ℕ → Type 0 where
   of_process : {lines : List PStep} (number : ℕ) (e : PFault)
-      → forward.IsFirstRefusedOfProcess f.signature f.process lines number e
+      → IsFirstRefusedOfProcess f.signature f.process lines number e
       → IsIllegal f (run.Process lines) (at_step number (process_fault_text e))
   of_rules : {lines : List RStep} (number : ℕ) (e : RFault)
       → back.IsFirstRefusedOfRules f.signature f.process lines number e

@@ -167,7 +167,7 @@ fn seen_of_rules(alloc: Global, file: &File, steps: &RSteps) -> Result<Trace, Re
 }
 
 /// The line that refuses a run of a process. Want of memory refuses none, and so has no line.
-fn line_at(alloc: Global, at: &At) -> Result<Text, Mem>
+pub(crate) fn line_at(alloc: Global, at: &At) -> Result<Text, Mem>
     ensures { IfOk result (λ line. IsAtLine at.now line) }
 {
     match at {

@@ -8,19 +8,18 @@ ghost use Rattle.sap_runs.specs.declared.process_step.PStep.{PStep};
 ghost use Rattle.sap_teller.specs.Telling.{IsToldAs};
 ghost use Rattle.sap_replay.specs.RunRefusals.{IsIllegal, IsLineOf};
 ghost use Rattle.sap_replay.specs.ToldRuns.{IsDrawn, IsTextOfLines, IsToldAndJudged};
-ghost use Rattle.sap_replay.specs.code.Refused.{IsUntoldLine};
 
 use crate::laws::{closed_files, process_lines, seen_traces_are_messages};
-use crate::replay::process_of;
+use crate::replay::{line_at, process_of};
 use crate::verdicts::verdicts;
 use sap_chart::chart_run;
 use sap_locks::annotations_are_ready;
 use sap_read::File;
-use sap_refusals::{Refusal, process_line, told};
+use sap_refusals::{Refusal, told};
 use sap_run_texts::Run;
 use sap_runs::PSteps;
 use sap_tell::legal_runs_are_told;
-use sap_teller::{ToldRun, Untold, tell_run};
+use sap_teller::{ToldRun, tell_run};
 use sap_terms::Mem;
 use sap_text::Text;
 use std::alloc::Global;
@@ -50,7 +49,7 @@ fn told_lines(alloc: Global, file: &File, lines: &PSteps) -> Result<Text, Refusa
     annotations_are_ready();
     match tell_run(alloc, &file.signature, &file.process, lines) {
         Ok(run) => Ok(with_verdicts(alloc, file, run)?),
-        Err(why) => Err(told(line_untold(alloc, &why))),
+        Err(why) => Err(told(line_at(alloc, &why))),
     }
 }
 
@@ -96,16 +95,6 @@ fn drawn_lines(alloc: Global, file: &File, lines: &PSteps) -> Result<Text, Refus
     let mut text = Text::new(alloc);
     match chart_run(alloc, &file.signature, &file.process, lines, &mut text) {
         Ok(_) => Ok(text),
-        Err(why) => Err(told(line_untold(alloc, &why))),
-    }
-}
-
-/// The line that refuses a run that would be told. Want of memory refuses none, and so has no line.
-fn line_untold(alloc: Global, why: &Untold) -> Result<Text, Mem>
-    ensures { IfOk result (λ line. IsUntoldLine why.now line) }
-{
-    match why {
-        Untold::Mem => Err(Mem),
-        Untold::Line { number, fault } => process_line(alloc, *number, fault),
+        Err(why) => Err(told(line_at(alloc, &why))),
     }
 }

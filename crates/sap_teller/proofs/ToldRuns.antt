@@ -1,18 +1,19 @@
 -- Runs that are told line by line.
 use Rattle.std.proofs.Common.{◌≡◌, ◌≤◌, ◌+◌, ℕ, List, [], ◌∷◌, ◌++◌, length, take, drop, Some, refl, sym, ap, ◌∙◌, slice_get, zero, suc, add-one, arith}
 use Rattle.std.proofs.Common.{length-append}
-use Rattle.sap_calc.specs.Running.{Running, configuration}
+use Rattle.sap_calc.specs.Running.{Running, configuration, IsDeniedAt}
 use Rattle.sap_deduce.specs.Entries.{terms_of}
 use Rattle.sap_lines.specs.Answers.{MatchesExactly, RunsMatchExactly}
 use Rattle.sap_lines.specs.Runs.{SmallProcessRunsAreLegal}
 use Rattle.sap_lines.specs.declared.fault.PFault.{PFault}
+use Rattle.sap_lines.specs.FirstRefused.{IsFirstRefusedOfProcess}
 use Rattle.sap_process.specs.Configuration.{initial}
 use Rattle.sap_process.specs.Proc.{Proc}
 use Rattle.sap_process.specs.Ready.{IsReady}
 use Rattle.sap_runs.specs.Marks.{marks_of}
 use Rattle.sap_runs.specs.declared.process_step.PStep.{PStep}
 use Rattle.sap_terms.specs.Signature.{Sig, HoldsBuiltins}
-use Rattle.sap_teller.specs.Telling.{IsToldAs, IsDeniedAt, IsFirstRefusedLine}
+use Rattle.sap_teller.specs.Telling.{IsToldAs}
 use Rattle.sap_tell.specs.ThreadPaths.{paths_from, paths_after, thread_paths}
 use Rattle.sap_tell.specs.Told as told
 use Rattle.sap_tell.specs.Told.{IsToldRun, IsToldLine}
@@ -75,7 +76,7 @@ module _ (legal : ToldRunsAreLegal) (g : Sig) (p : Proc) where
   length_take (y ∷ ys) (suc k) x h = ap suc (length_take ys k x h)
 
   -- the first line that is refused
-  pub first_refused : (run : List PStep) (k : ℕ) (step : PStep) → slice_get run k ≡ Some step → (z : Running) (a : Along) (t : ToldRun) → IsToldSoFar g p (take k run) z a t → (n : ℕ) (fault : PFault) → IsDeniedAt z step (a.lines + 1) n fault → IsFirstRefusedLine g p run n fault
+  pub first_refused : (run : List PStep) (k : ℕ) (step : PStep) → slice_get run k ≡ Some step → (z : Running) (a : Along) (t : ToldRun) → IsToldSoFar g p (take k run) z a t → (n : ℕ) (fault : PFault) → IsDeniedAt z step (a.lines + 1) n fault → IsFirstRefusedOfProcess g p run n fault
   first_refused run k step at z a t h n fault d = record {
     before = take k run;
     line = step;

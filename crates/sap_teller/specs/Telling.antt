@@ -1,12 +1,8 @@
 -- One line that is done and told, and a run that is.
 use Rattle.std.specs.Prelude.{◌≡◌, ◌+◌, ℕ, List, [], ◌∷◌, ◌++◌, length}
-use Rattle.sap_calc.specs.Running.{Running, configuration, IsDenied}
+use Rattle.sap_calc.specs.Running.{Running, configuration}
 use Rattle.sap_deduce.specs.Entries.{terms_of}
-use Rattle.sap_lines.specs.Faults.{IsRefused}
 use Rattle.sap_lines.specs.Lines.{IsProcessLine}
-use Rattle.sap_lines.specs.Runs.{IsLegalProcessRun}
-use Rattle.sap_lines.specs.declared.fault.PFault.{PFault}
-use Rattle.sap_lines.specs.declared.fault.PFault.TheVariants.{Mem}
 use Rattle.sap_process.specs.Configuration.{Config}
 use Rattle.sap_process.specs.Proc.{Proc}
 use Rattle.sap_runs.specs.Inner.{InnerAction}
@@ -49,30 +45,9 @@ pub record IsToldApart (r z : Running) (a b : Along) (before after apart_before 
   pub lines : b.lines ≡ a.lines + 1
   pub facts : b.facts ≡ length z.facts
 
--- the line with this number is refused for this cause, which isn't want of memory
-pub record IsDeniedAt (r : Running) (step : PStep) (number n : ℕ) (fault : PFault) : Type 0 where
-  pub same : n ≡ number
-  pub denied : IsDenied r step fault
-  pub cause : ¬ (fault ≡ Mem)
-
 -- the lines are a legal run of the process within the limit, and it is told by the text
 pub record IsToldAs (g : Sig) (p : Proc) (lines : List PStep) (trace : Trace) (text : List ℕ) : Type 0 where
   pub config : Config
   pub entries : List Tree
   pub marks : List Mark
   pub run : IsToldRun g p lines config entries trace marks text
-
--- the lines before the one with this number, from 1, are such a run, and that one is refused for this cause
-pub record IsFirstRefusedLine (g : Sig) (p : Proc) (lines : List PStep) (number : ℕ) (fault : PFault) : Type 0 where
-  pub before : List PStep
-  pub line : PStep
-  pub after : List PStep
-  pub cut : lines ≡ before ++ line ∷ after
-  pub counts : number ≡ length before + 1
-  pub config : Config
-  pub entries : List Tree
-  pub trace : Trace
-  pub marks : List Mark
-  pub legal : IsLegalProcessRun g HasFewNodes p before config entries trace marks
-  pub refused : IsRefused g config entries line fault
-  pub cause : ¬ (fault ≡ Mem)

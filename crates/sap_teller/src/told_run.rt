@@ -1,22 +1,22 @@
 //! Runs that are told.
 ghost use Rattle.std.specs.Prelude.{◌≡◌, ◌+◌, ◌<◌, ◌∷◌, ◌++◌, [], ℕ, Err, IfOk, OnOk, length};
-ghost use Rattle.sap_calc.specs.Running.{configuration, IsDenied};
+ghost use Rattle.sap_calc.specs.Running.{configuration, IsDenied, IsDeniedAt};
 ghost use Rattle.sap_deduce.specs.Entries.{terms_of};
 ghost use Rattle.sap_lines.specs.Answers.{MatchesExactly};
+ghost use Rattle.sap_lines.specs.declared.at.At.TheVariants.{Step as StepOf};
 ghost use Rattle.sap_lines.specs.declared.fault.PFault.{PFault as Fault};
-ghost use Rattle.sap_lines.specs.declared.fault.PFault.TheVariants.{Mem as OutOfMemory};
+ghost use Rattle.sap_lines.specs.FirstRefused.{IsFirstRefusedOfProcess};
 ghost use Rattle.sap_process.specs.Configuration.{initial};
 ghost use Rattle.sap_process.specs.Proc.{Proc, proc};
 ghost use Rattle.sap_process.specs.Ready.{IsReady};
 ghost use Rattle.sap_terms.specs.Signature.{HoldsBuiltins};
 ghost use Rattle.sap_terms.specs.Trace.{shown};
-ghost use Rattle.sap_teller.specs.Telling.{IsDeniedAt, IsFirstRefusedLine, IsToldAs};
+ghost use Rattle.sap_teller.specs.Telling.{IsToldAs};
 ghost use Rattle.sap_teller.specs.code.Runs.{IsNextTold};
-ghost use Rattle.sap_teller.specs.declared.told_run.Untold.TheVariants as untold;
 
 use crate::telling::{Along, tell_line};
 use sap_calc::Config;
-use sap_lines::{PFault, limit_excludes, runs_match_exactly};
+use sap_lines::{At, at_line, limit_excludes, runs_match_exactly};
 use sap_process::Process;
 use sap_runs::{PStep, PSteps};
 use sap_tell::legal_runs_are_told;
@@ -24,41 +24,11 @@ use sap_terms::{FactList, Mem, Signature, Trace};
 use sap_text::Text;
 use std::alloc::Global;
 
-/// Why a run isn't told.
-#[derive(Drop)]
-pub enum Untold {
-    /// Want of memory.
-    Mem,
-    /// The line with this number, from 1, is the first illegal one, for this cause, which isn't want of memory.
-    Line { number: u64, fault: PFault },
-}
-
-impl From<Mem> for Untold {
-    ghost from_gives = { λ _ e. e ≡ untold.Mem };
-
-    fn from(_e: Mem) -> Untold {
-        Untold::Mem
-    }
-}
-
 /// What is told of a run, and what it shows.
 #[derive(Drop)]
 pub struct ToldRun {
     pub text: Text,
     pub trace: Trace,
-}
-
-/// The cause at the line with this number.
-pub fn at_line(number: u64, fault: PFault) -> Untold
-    ensures { (n : ℕ) (e : Fault) → result ≡ untold.Line n e → (n ≡ number) × (e ≡ fault) × ¬ (e ≡ OutOfMemory) }
-{
-    match fault {
-        PFault::Mem => Untold::Mem,
-        other => Untold::Line {
-            number,
-            fault: other,
-        },
-    }
 }
 
 // Puts a label last, unless it is empty.
@@ -79,13 +49,13 @@ fn tell_next(
     at: &mut Along,
     step: &PStep,
     told: &mut ToldRun,
-) -> Result<(), Untold>
+) -> Result<(), At>
     requires sig { config.old.sig ≡ sig.now }
     requires exact { MatchesExactly sig.now (configuration config.old) (terms_of config.old.known) }
     requires facts { at.old.facts ≡ length config.old.facts }
     requires lines { at.old.lines < u64.MAX }
     ensures ok { OnOk result (IsNextTold config.old config.new at.old at.new told.old told.new step.now) }
-    ensures refused { (n : ℕ) (fault : Fault) → result ≡ Err (untold.Line n fault)
+    ensures refused { (n : ℕ) (fault : Fault) → result ≡ Err (StepOf n fault)
         → IsDeniedAt config.old step.now (at.old.lines + 1) n fault }
 {
     let number = at.lines + 1;
@@ -105,7 +75,7 @@ pub fn started(alloc: Global, sig: &Signature, p: &Process) -> Result<Box<Config
     Ok(Box::new(alloc, Config::start(alloc, sig, p)?)?)
 }
 
-/// What is told of a run of a process, each line done once, and what it shows. `Line` names the first illegal line. Its time goes with
+/// What is told of a run of a process, each line done once, and what it shows. `Step` names the first illegal line. Its time goes with
 /// the process's heads, the lines and the text, not with those of what was known and stored before. It recurses as deep as the process
 /// and the terms of process and run.
 pub fn tell_run(
@@ -113,12 +83,12 @@ pub fn tell_run(
     sig: &Signature,
     p: &Process,
     run: &PSteps,
-) -> Result<ToldRun, Untold>
+) -> Result<ToldRun, At>
     requires builtins { HoldsBuiltins sig.now }
     requires ready { IsReady sig.now (proc p.now) }
     ensures told { IfOk result (λ t. IsToldAs sig.now (proc p.now) run.now t.trace t.text) }
-    ensures refused { (n : ℕ) (fault : Fault) → result ≡ Err (untold.Line n fault)
-        → IsFirstRefusedLine sig.now (proc p.now) run.now n fault }
+    ensures refused { (n : ℕ) (fault : Fault) → result ≡ Err (StepOf n fault)
+        → IsFirstRefusedOfProcess sig.now (proc p.now) run.now n fault }
 {
     limit_excludes();
     runs_match_exactly();

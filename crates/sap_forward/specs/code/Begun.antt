@@ -13,6 +13,7 @@ use Rattle.sap_runs.specs.declared.process_step.PStep.{PStep}
 use Rattle.sap_runs.specs.declared.rule_step.RStep.{RStep}
 use Rattle.sap_lines.specs.Runs.{IsLegalProcessRun}
 use Rattle.sap_lines.specs.declared.fault.PFault.{PFault}
+use Rattle.sap_lines.specs.FirstRefused.{IsFirstRefusedOfProcess}
 use Rattle.sap_steps.specs.Marks.{marks}
 use Rattle.sap_steps.specs.Runs.{IsLegalRun}
 use Rattle.sap_calc.specs.Running.{Running, configuration}
@@ -21,7 +22,7 @@ use Rattle.sap_translate.specs.LineCounts.{back_count}
 use Rattle.sap_translate.specs.relation.Agents.{Agent, running, copying}
 use Rattle.sap_translate.specs.relation.Envs.{no_env}
 use Rattle.sap_forward.specs.Answered.{Draws, first_rule_tables}
-use Rattle.sap_forward.specs.Converted.{IsConvertedToRules, IsFirstRefusedOfProcess}
+use Rattle.sap_forward.specs.Converted.{IsConvertedToRules}
 use Rattle.sap_forward.specs.Counted.{lines_for_all, all_copying}
 use Rattle.sap_rule_lines.specs.Least.{is_among, names_drawn, not_drawn, numbers_below}
 use Rattle.sap_forward.specs.LinesFor.{AreRuleLinesForAll}

@@ -8,21 +8,14 @@ use Rattle.sap_runs.specs.declared.process_step.PStep.{PStep}
 use Rattle.sap_runs.specs.declared.process_step.PStep.TheVariants.{Found}
 use Rattle.sap_runs.specs.declared.rule_step.RStep.{RStep}
 use Rattle.sap_lines.specs.declared.fault.PFault.{PFault}
-use Rattle.sap_lines.specs.declared.fault.PFault.TheVariants.{Mem}
 use Rattle.sap_calc.specs.Replays.{AreDone}
-use Rattle.sap_calc.specs.Running.{Running, IsDone, IsDenied, WouldFind, FindsNothing}
+use Rattle.sap_calc.specs.Running.{Running, IsDone, IsDeniedAt, WouldFind, FindsNothing}
 use Rattle.sap_forward.specs.code.Desk.{WritesRules}
 use Rattle.sap_forward.specs.declared.desk.Desk.{Desk}
 
 -- what a line `found` would find
 abbrev pub IsFoundBy : Running → PStep → Option Term → Type 0
 IsFoundBy r step found = (t : ℕ) → step ≡ Found t → MatchOption found (FindsNothing r t) (λ v. WouldFind r t (tree v))
-
--- the line with this number is refused for this cause, which isn't want of memory
-pub record IsRefusedAt (r : Running) (step : PStep) (number n : ℕ) (fault : PFault) : Type 0 where
-  pub same : n ≡ number
-  pub denied : IsDenied r step fault
-  pub cause : ¬ (fault ≡ Mem)
 
 -- the line is done, and its label is put last unless it is empty
 pub record IsShown (r z : Running) (step : PStep) (before after : Trace) : Type 0 where
@@ -38,7 +31,7 @@ pub record AreDoneUntil (r : Running) (run : List PStep) (n : ℕ) (fault : PFau
   pub behind : Running
   pub trace : Trace
   pub done : AreDone r (take before run) behind trace
-  pub refused : IsRefusedAt behind line (before + 1) n fault
+  pub refused : IsDeniedAt behind line (before + 1) n fault
 
 -- the line is done, and the desk writes what it writes for it
 pub record IsTaken (r z : Running) (d e : Desk) (step : PStep) (before after : List RStep) : Type 0 where

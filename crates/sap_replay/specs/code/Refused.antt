@@ -2,23 +2,16 @@
 use Rattle.std.specs.Prelude.{◌≡◌, ℕ, List}
 use Rattle.sap_back.specs.declared.back_at.BackAt.{BackAt}
 use Rattle.sap_back.specs.declared.back_at.BackAt.TheVariants as back
-use Rattle.sap_forward.specs.declared.at.At.{At}
-use Rattle.sap_forward.specs.declared.at.At.TheVariants as forward
+use Rattle.sap_lines.specs.declared.at.At.{At}
+use Rattle.sap_lines.specs.declared.at.At.TheVariants as process
 use Rattle.sap_replay.specs.declared.checking.Stop.{Stop}
 use Rattle.sap_replay.specs.declared.checking.Stop.TheVariants as stop
-use Rattle.sap_teller.specs.declared.told_run.Untold.{Untold}
-use Rattle.sap_teller.specs.declared.told_run.Untold.TheVariants as untold
 use Rattle.sap_refusals.specs.RunFaultTexts.{at_step, broken_text, process_fault_text, rule_fault_text, run_refused_line}
 
--- the line says where and why a run of a process is refused; that memory was wanting has no line
+-- the line says where and why a run of a process is refused, isn't told or drawn; that memory was wanting has no line
 abbrev pub IsAtLine : At → List ℕ → Type 0
-IsAtLine forward.Mem line = ⊥
-IsAtLine (forward.Step step fault) line = line ≡ run_refused_line (at_step step (process_fault_text fault))
-
--- the same of a run that would be told
-abbrev pub IsUntoldLine : Untold → List ℕ → Type 0
-IsUntoldLine untold.Mem line = ⊥
-IsUntoldLine (untold.Line number fault) line = line ≡ run_refused_line (at_step number (process_fault_text fault))
+IsAtLine process.Mem line = ⊥
+IsAtLine (process.Step step fault) line = line ≡ run_refused_line (at_step step (process_fault_text fault))
 
 -- the same of a run of rules
 abbrev pub IsBackAtLine : BackAt → List ℕ → Type 0

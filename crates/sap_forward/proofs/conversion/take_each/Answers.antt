@@ -2,7 +2,7 @@ use Rattle.std.proofs.Common.{◌≡◌, arith, subst}
 use Rattle.std.proofs.lemmas.Grind.{common_steps}
 use Rattle.sap_rule_lines.specs.Least.{names_drawn}
 use Rattle.sap_forward.specs.code.Begun.{IsBegun}
-use Rattle.sap_forward.specs.declared.at.At.TheVariants.{Step as StepOf}
+use Rattle.sap_lines.specs.declared.at.At.TheVariants.{Step as StepOf}
 use Rattle.sap_forward.proofs.Looped.{one_more_taken, refused_here, take_all}
 use Rattle.sap_forward.proofs.conversion.take_each.Goals as goal
 

@@ -2,7 +2,7 @@ use Rattle.std.proofs.Common.{◌≡◌, ◌<◌, ◌^◌, arith, sym}
 use Rattle.std.proofs.lemmas.Grind.{common_steps}
 use Rattle.sap_process.specs.Proc.{proc, node_count}
 use Rattle.sap_rule_lines.specs.Least.{names_drawn}
-use Rattle.sap_forward.specs.declared.at.At.TheVariants.{Step as StepOf}
+use Rattle.sap_lines.specs.declared.at.At.TheVariants.{Step as StepOf}
 use Rattle.sap_forward.proofs.Looped.{all_converted, begun_at, headed, none_converted}
 use Rattle.sap_forward.proofs.conversion.to_rules.Goals as goal
 

@@ -1,6 +1,6 @@
 use Rattle.std.proofs.Common.{◌≡◌, subst, sym}
 use Rattle.sap_calc.specs.Running.{IsDenied}
-use Rattle.sap_forward.specs.declared.at.At.TheVariants.{Step}
+use Rattle.sap_lines.specs.declared.at.At.TheVariants.{Step}
 use Rattle.sap_forward.proofs.trace.follow.Goals as goal
 
 pub returns-in-Err-clause-refused : goal.returns-in-Err-clause-refused

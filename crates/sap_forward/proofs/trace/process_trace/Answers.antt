@@ -2,7 +2,7 @@ use Rattle.std.proofs.Common.{◌≡◌, arith, subst}
 use Rattle.std.proofs.lemmas.Grind.{common_steps}
 use Rattle.sap_calc.specs.Replays.{AreDone}
 use Rattle.sap_forward.specs.code.Taken.{AreDoneUntil}
-use Rattle.sap_forward.specs.declared.at.At.TheVariants.{Step as StepOf}
+use Rattle.sap_lines.specs.declared.at.At.TheVariants.{Step as StepOf}
 use Rattle.sap_forward.proofs.Looped.{refused_there, all_shown}
 use Rattle.sap_forward.proofs.trace.process_trace.Goals as goal
 

@@ -1,7 +1,7 @@
 use Rattle.std.proofs.Common.{◌≡◌, [], arith, subst, sym}
 use Rattle.std.proofs.lemmas.Grind.{common_steps}
 use Rattle.sap_calc.specs.Replays.{AreDone}
-use Rattle.sap_forward.specs.declared.at.At.TheVariants.{Step as StepOf}
+use Rattle.sap_lines.specs.declared.at.At.TheVariants.{Step as StepOf}
 use Rattle.sap_forward.proofs.Looped.{one_more_shown, take_all}
 use Rattle.sap_forward.proofs.trace.show_each.Goals as goal
 

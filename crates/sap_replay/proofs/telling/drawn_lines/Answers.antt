@@ -1,7 +1,7 @@
 use Rattle.std.proofs.Common.{rules, ◌≡◌, Ok, Err, ap}
 use Rattle.sap_process.specs.Proc.{proc}
 use Rattle.sap_answer.specs.declared.refusal.Refusal.TheVariants as refusals
-use Rattle.sap_replay.proofs.Stopped.{untold_stops}
+use Rattle.sap_replay.proofs.Stopped.{process_stops}
 use Rattle.sap_replay.proofs.telling.drawn_lines.Goals as goal
 
 pub chart_run-requires-clause-ready : goal.chart_run-requires-clause-ready
@@ -10,6 +10,6 @@ chart_run-requires-clause-ready c = c.annotations_are_ready.ensures.ready c.args
 pub returns-in-Err-clause-refused : goal.returns-in-Err-clause-refused
 returns-in-Err-clause-refused c = λ line h.
     let same : c.told.result ≡ refusals.Told line = search (rules, h) in
-    let written : c.line_untold.result ≡ Ok line = c.told.ensures.only line same in
-    let is = rw written at c.line_untold.ensures in
-    untold_stops _ _ c.in-Err.why line is (λ number fault e. c.in-Err.ensures.refused number fault (ap Err e))
+    let written : c.line_at.result ≡ Ok line = c.told.ensures.only line same in
+    let is = rw written at c.line_at.ensures in
+    process_stops _ _ c.in-Err.why line is (λ number fault e. c.in-Err.ensures.refused number fault (ap Err e))

@@ -1,11 +1,11 @@
 use Rattle.std.proofs.Common.{◌≡◌, subst, sym}
 use Rattle.sap_calc.specs.Running.{IsDenied}
-use Rattle.sap_teller.specs.declared.told_run.Untold.TheVariants.{Line}
+use Rattle.sap_lines.specs.declared.at.At.TheVariants.{Step as StepOf}
 use Rattle.sap_teller.proofs.told_run.tell_next.Goals as goal
 
 pub returns-in-Err-clause-refused : goal.returns-in-Err-clause-refused
 returns-in-Err-clause-refused c = λ n fault e.
-    let is : c.at_line.result ≡ Line n fault = cc in
+    let is : c.at_line.result ≡ StepOf n fault = cc in
     let h = c.at_line.ensures n fault is in
     record {
       same = h.0;

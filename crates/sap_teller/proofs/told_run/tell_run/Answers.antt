@@ -1,14 +1,13 @@
 use Rattle.std.proofs.Common.{◌≡◌, ◌+◌, arith, subst, sym, take, List}
 use Rattle.std.proofs.lemmas.Grind.{common_steps}
-use Rattle.sap_calc.specs.Running.{Running, configuration}
+use Rattle.sap_calc.specs.Running.{Running, configuration, IsDeniedAt}
 use Rattle.sap_deduce.specs.Entries.{terms_of}
 use Rattle.sap_lines.specs.Answers.{MatchesExactly}
 use Rattle.sap_process.specs.Proc.{proc}
 use Rattle.sap_runs.specs.declared.process_step.PStep.{PStep}
 use Rattle.sap_terms.proofs.PlainLaws.Lists.{take_got}
-use Rattle.sap_teller.specs.Telling.{IsDeniedAt}
 use Rattle.sap_teller.specs.code.Runs.{IsNextTold, IsToldSoFar}
-use Rattle.sap_teller.specs.declared.told_run.Untold.TheVariants.{Line}
+use Rattle.sap_lines.specs.declared.at.At.TheVariants.{Step as StepOf}
 use Rattle.sap_teller.proofs.ToldRuns.{none_told, more_told, told_exactly, all_told, first_refused, take_all}
 use Rattle.sap_teller.proofs.told_run.tell_run.Goals as goal
 
@@ -34,7 +33,7 @@ loop-k-preserved c =
 pub returns-in_err-tell_next-clause-refused : goal.returns-in_err-tell_next-clause-refused
 returns-in_err-tell_next-clause-refused c = λ n fault is.
     let here : c.deref_mut.result.now ≡ c.loop-k.config.value = cc in
-    let same : c.in_err-tell_next.field-0.0 ≡ Line n fault = grind (arith, common_steps, is, c.from_residual-in_err-tell_next.ensures) in
+    let same : c.in_err-tell_next.field-0.0 ≡ StepOf n fault = grind (arith, common_steps, is, c.from_residual-in_err-tell_next.ensures) in
     first_refused c.legal_runs_are_told.ensures.legal c.args.sig.now (proc c.args.p.now) c.args.run.now c.loop-k.k c.at.result.now c.at.ensures c.loop-k.config.value c.loop-k.at c.loop-k.told c.loop-k.invariant n fault
     (subst (λ (z : Running). IsDeniedAt z c.at.result.now (c.loop-k.at.lines + 1) n fault) here (c.in_err-tell_next.ensures.refused n fault (grind (arith, common_steps, same))))
 
