@@ -2,7 +2,7 @@
 ghost use Rattle.std.specs.Prelude.{◌≡◌, ◌++◌, ◌∷◌, [], IfOk, OnOk, is_some, if◌then◌else◌};
 ghost use Rattle.sap_terms.specs.NameMap.{value_at};
 ghost use Rattle.sap_terms.specs.NameSet.{with_name};
-ghost use Rattle.sap_terms.specs.Variables.{facts_vars, tree_vars};
+ghost use Rattle.sap_terms.specs.Variables.{tree_vars};
 ghost use Rattle.sap_terms.specs.View.{tree};
 ghost use Rattle.sap_macro.specs.Expansion.{binding_vars};
 ghost use Rattle.sap_macro.specs.Order.{AreInOrder};
@@ -15,9 +15,8 @@ use crate::below::below;
 use crate::definition::DefinitionList;
 use crate::index::{Index, form_of};
 use crate::source::{Below, Doing, Source};
-use sap_terms::{
-    Copied, FactList, Mem, Name, NameMap, NameSet, Term, Var, Vars, push_facts_vars, push_vars,
-};
+use sap_process::rule_vars;
+use sap_terms::{Copied, FactList, Mem, Name, NameMap, NameSet, Term, Var, Vars, push_vars};
 use std::alloc::Global;
 
 // The variables of the pattern.
@@ -26,17 +25,6 @@ fn pattern_vars(alloc: Global, t: &Term) -> Result<Vars, Mem>
 {
     let mut vars = Vars::new(alloc);
     push_vars(alloc, t, &mut vars)?;
-    Ok(vars)
-}
-
-// The variables of the rule.
-fn rule_vars(alloc: Global, l: &FactList, e: &FactList, r: &FactList) -> Result<Vars, Mem>
-    ensures { IfOk result (λ vs. vs ≡ facts_vars (l.now ++ (e.now ++ r.now))) }
-{
-    let mut vars = Vars::new(alloc);
-    push_facts_vars(alloc, l, &mut vars)?;
-    push_facts_vars(alloc, e, &mut vars)?;
-    push_facts_vars(alloc, r, &mut vars)?;
     Ok(vars)
 }
 

@@ -1,2 +1,1 @@
-pub mod RuleVars
 pub mod FactNames

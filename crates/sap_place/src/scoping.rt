@@ -7,10 +7,8 @@ ghost use Rattle.sap_process.specs.Sites.{var_names};
 ghost use Rattle.sap_process.specs.Scopes.{lock_var, with_new};
 ghost use Rattle.sap_place.specs.code.Below.{head_locks, head_scope};
 
-use sap_process::Process;
-use sap_terms::{
-    Copied, FactList, Mem, Name, Numbers, Sort, Term, Var, Vars, push_facts_vars, push_vars,
-};
+use sap_process::{Process, rule_vars};
+use sap_terms::{Copied, FactList, Mem, Name, Numbers, Sort, Term, Var, Vars, push_vars};
 use std::alloc::Global;
 
 /// The scope with the variable, of this sort, last. Want of memory is the only error, as in all these.
@@ -44,17 +42,6 @@ pub fn with_rule(
 {
     let vars = rule_vars(alloc, l, e, r)?;
     with_new_of(alloc, scope, &vars)
-}
-
-#[tactic(auto, using(crate::proofs::RuleVars::vars_of_rule))]
-fn rule_vars(alloc: Global, l: &FactList, e: &FactList, r: &FactList) -> Result<Vars, Mem>
-    ensures { IfOk result (λ v. v ≡ facts_vars (l.now ++ (e.now ++ r.now))) }
-{
-    let mut vars = Vars::new(alloc);
-    push_facts_vars(alloc, l, &mut vars)?;
-    push_facts_vars(alloc, e, &mut vars)?;
-    push_facts_vars(alloc, r, &mut vars)?;
-    Ok(vars)
 }
 
 fn with_new_of(alloc: Global, scope: &Vars, vars: &Vars) -> Result<Vars, Mem>

@@ -28,6 +28,7 @@ pub mod OneThread
 pub mod OwnNames
 pub mod NoSteps
 pub mod NewVars
+pub mod RuleVars
 pub mod NoTraces
 pub mod ExactSteps
 pub mod FlawsByHand

@@ -5,6 +5,7 @@ mod binding;
 mod by_hand;
 mod checking;
 mod copying;
+mod embedded_rules;
 mod flaw;
 mod found;
 mod heads;
@@ -24,6 +25,7 @@ mod walk;
 
 pub use by_hand::{flaws_by_hand, instances_by_hand, places_by_hand, scopes_by_hand};
 pub use checking::{well_formed, well_formed_boxed};
+pub use embedded_rules::rule_vars;
 pub use flaw::{Flaw, Ill};
 pub use laws::{
     choices_are_bindings, exact_steps_by_hand, instances_of_processes, no_steps_by_hand,
