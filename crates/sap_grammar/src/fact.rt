@@ -50,9 +50,13 @@ fn read_fact_args<'a>(
     ensures { Gives bytes.now (λ f. f) result (fact_args (term sig.now depth) persistent name.now
         (words_of bytes.now tokens.now)) }
 {
-    match read_args(alloc, sig, bytes, depth, tokens)? {
-        None => Ok(None),
-        Some((args, rest)) => Ok(Some((fact(alloc, persistent, name, args)?, rest))),
+    match read_args(alloc, sig, bytes, depth, tokens) {
+        Ok(Some((args, rest))) => match fact(alloc, persistent, name, args) {
+            Ok(fact) => Ok(Some((fact, rest))),
+            Err(mem) => Err(mem),
+        },
+        Ok(None) => Ok(None),
+        Err(mem) => Err(mem),
     }
 }
 
@@ -68,21 +72,16 @@ fn read_behind_sign<'a>(
     ensures { Gives bytes.now (λ f. f) result (fact_from (term sig.now depth) persistent
         (words_of bytes.now tokens.now)) }
 {
-    let Some(name) = name_at(bytes, tokens) else {
-        return Ok(None);
-    };
-    if is_upper(name) && starts(bytes, beyond(1, tokens), "(") {
-        read_fact_args(
-            alloc,
-            sig,
-            bytes,
-            depth,
-            persistent,
-            name,
-            beyond(2, tokens),
-        )
-    } else {
-        Ok(None)
+    match name_at(bytes, tokens) {
+        Some(name) => {
+            if is_upper(name) && starts(bytes, beyond(1, tokens), "(") {
+                let behind = beyond(2, tokens);
+                read_fact_args(alloc, sig, bytes, depth, persistent, name, behind)
+            } else {
+                Ok(None)
+            }
+        }
+        None => Ok(None),
     }
 }
 
@@ -120,13 +119,17 @@ pub fn read_short_fact<'a>(
         (words_of bytes.now tokens.now)) }
 {
     let depth = limits.term_levels as u64;
-    let Some((fact, rest)) = read_deep(alloc, sig, bytes, depth, tokens)? else {
-        return Ok(None);
-    };
-    if !are_small(limits, &fact.args) || (fact.persistent && !allowed) {
-        return Ok(None);
+    match read_deep(alloc, sig, bytes, depth, tokens) {
+        Ok(Some((fact, rest))) => {
+            if !are_small(limits, &fact.args) || (fact.persistent && !allowed) {
+                drop(fact);
+                return Ok(None);
+            }
+            Ok(Some((fact, rest)))
+        }
+        Ok(None) => Ok(None),
+        Err(mem) => Err(mem),
     }
-    Ok(Some((fact, rest)))
 }
 
 #[tactic(auto, using(crate::proofs::Steps::steps), unfolding(crate::specs::Reading::after))]
@@ -146,17 +149,20 @@ fn read_fact_list<'a>(
     let mut facts = FactList::new(alloc);
     let mut rest = tokens;
     while !rest.is_empty() {
-        let Some((fact, next)) = read_short_fact(alloc, sig, limits, bytes, allowed, rest)? else {
-            return Ok(None);
-        };
-        facts.push(fact)?;
-        if starts(bytes, next, closing) {
-            return Ok(Some((facts, beyond(1, next))));
+        match read_short_fact(alloc, sig, limits, bytes, allowed, rest) {
+            Ok(Some((fact, next))) => {
+                facts.push(fact)?;
+                if starts(bytes, next, closing) {
+                    return Ok(Some((facts, beyond(1, next))));
+                }
+                if !starts(bytes, next, ",") {
+                    return Ok(None);
+                }
+                rest = beyond(1, next);
+            }
+            Ok(None) => return Ok(None),
+            Err(mem) => return Err(mem),
         }
-        if !starts(bytes, next, ",") {
-            return Ok(None);
-        }
-        rest = beyond(1, next);
     }
     Ok(None)
 }
@@ -200,12 +206,16 @@ pub fn read_fact(
 {
     let all = tokens.as_slice();
     let tokens = beyond(at as usize, all);
-    let Some((fact, rest)) = read_short_fact(alloc, sig, limits, bytes, true, tokens)? else {
-        return Ok(None);
-    };
-    if starts(bytes, rest, "(") {
-        Ok(None)
-    } else {
-        Ok(Some((fact, (all.len() - rest.len()) as u64)))
+    match read_short_fact(alloc, sig, limits, bytes, true, tokens) {
+        Ok(Some((fact, rest))) => {
+            if starts(bytes, rest, "(") {
+                drop(fact);
+                Ok(None)
+            } else {
+                Ok(Some((fact, (all.len() - rest.len()) as u64)))
+            }
+        }
+        Ok(None) => Ok(None),
+        Err(mem) => Err(mem),
     }
 }
