@@ -37,7 +37,7 @@ fn are_small(limits: Limits, args: &TermList) -> bool
     true
 }
 
-#[tactic(auto, using(crate::proofs::Steps::steps), unfolding(crate::specs::Reading::after))]
+#[tactic(auto, using(crate::proofs::ReadingLaws::Tokens::word_steps), unfolding(crate::specs::Reading::after))]
 fn read_fact_args<'a>(
     alloc: Global,
     sig: &Signature,
@@ -60,7 +60,7 @@ fn read_fact_args<'a>(
     }
 }
 
-#[tactic(auto, using(crate::proofs::Steps::steps), unfolding(crate::specs::Reading::given))]
+#[tactic(auto, using(crate::proofs::ReadingLaws::Tokens::word_steps), unfolding(crate::specs::Reading::given))]
 fn read_behind_sign<'a>(
     alloc: Global,
     sig: &Signature,
@@ -86,7 +86,7 @@ fn read_behind_sign<'a>(
 }
 
 // A fact whose terms are read so deep at most, and the tokens behind it. As `read_deep` of terms.
-#[tactic(auto, using(crate::proofs::Steps::steps), unfolding(crate::specs::Reading::after))]
+#[tactic(auto, using(crate::proofs::ReadingLaws::Tokens::word_steps), unfolding(crate::specs::Reading::after))]
 fn read_deep<'a>(
     alloc: Global,
     sig: &Signature,
@@ -106,7 +106,7 @@ fn read_deep<'a>(
 
 /// The fact that the tokens begin with, whose terms are within the limits and which is persistent only where that is allowed,
 /// and the tokens behind it; None where there is none.
-#[tactic(auto, using(crate::proofs::Steps::steps), unfolding(crate::specs::Reading::after, crate::specs::TermReading::short_fact))]
+#[tactic(auto, using(crate::proofs::ReadingLaws::Tokens::word_steps), unfolding(crate::specs::Reading::after, crate::specs::TermReading::short_fact))]
 pub fn read_short_fact<'a>(
     alloc: Global,
     sig: &Signature,
@@ -132,7 +132,7 @@ pub fn read_short_fact<'a>(
     }
 }
 
-#[tactic(auto, using(crate::proofs::Steps::steps), unfolding(crate::specs::Reading::after))]
+#[tactic(auto, using(crate::proofs::ReadingLaws::Tokens::word_steps), unfolding(crate::specs::Reading::after))]
 fn read_fact_list<'a>(
     alloc: Global,
     sig: &Signature,
@@ -169,7 +169,7 @@ fn read_fact_list<'a>(
 
 /// Facts, none or more, with commas between them, up to the closing mark, each as `read_short_fact` reads it, and the
 /// tokens behind the mark; None where there are none such.
-#[tactic(auto, using(crate::proofs::Steps::steps), unfolding(crate::specs::Reading::after, crate::specs::TermReading::facts))]
+#[tactic(auto, using(crate::proofs::ReadingLaws::Tokens::word_steps), unfolding(crate::specs::Reading::after, crate::specs::TermReading::facts))]
 pub fn read_facts<'a>(
     alloc: Global,
     sig: &Signature,

@@ -107,7 +107,7 @@ fn quoted(alloc: Global, content: &[u8]) -> Result<Term, Mem>
     Ok(Term::Public(Name::from_bytes(alloc, content)?))
 }
 
-#[tactic(auto, using(crate::proofs::Steps::steps), unfolding(crate::specs::Reading::given))]
+#[tactic(auto, using(crate::proofs::ReadingLaws::Tokens::word_steps), unfolding(crate::specs::Reading::given))]
 fn read_signed<'a>(
     alloc: Global,
     bytes: &[u8],
@@ -362,7 +362,7 @@ pub(crate) fn is_small(limits: Limits, term: &Term) -> bool
 
 /// The term within the limits that the tokens begin with, and the tokens behind it; None where there is none. As
 /// `read_term` but for what stands behind it, which may be anything.
-#[tactic(auto, using(crate::proofs::Steps::steps), unfolding(crate::specs::Reading::after, crate::specs::TermReading::short_term))]
+#[tactic(auto, using(crate::proofs::ReadingLaws::Tokens::word_steps), unfolding(crate::specs::Reading::after, crate::specs::TermReading::short_term))]
 pub fn read_short_term<'a>(
     alloc: Global,
     sig: &Signature,
