@@ -142,8 +142,20 @@ impl Lines {
         ensures err { OnErr result (self.new ≡ self.old) }
     {
         let alloc = self.entries.allocator();
-        let symbol = place_in(alloc, &mut self.symbols, &mut self.places, f)?;
-        let from = append(&mut self.used, numbers)?;
+        let symbol = match place_in(alloc, &mut self.symbols, &mut self.places, f) {
+            Ok(symbol) => symbol,
+            Err(e) => {
+                drop(term);
+                return Err(e);
+            }
+        };
+        let from = match append(&mut self.used, numbers) {
+            Ok(from) => from,
+            Err(e) => {
+                drop(term);
+                return Err(e);
+            }
+        };
         let count = numbers.len();
         self.entries.push(Entry {
             number,

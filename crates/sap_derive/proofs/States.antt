@@ -301,6 +301,17 @@ keeps-then s t u a b = record {
   trees = b.trees ∙ ap (λ (ts : List Tree). ts ++ b.added) a.trees ∙ simp append_assoc;
 }
 
+-- a search stays itself, and what stays in turn stays
+pub stays-same : (s : State) → Stays s s
+stays-same s = record { table = keeps-same s.table; entries = refl; terms = λ n l. l }
+
+pub stays-then : (s t u : State) → Stays s t → Stays t u → Stays s u
+stays-then s t u a b = record {
+  table = keeps-then s.table t.table u.table a.table b.table;
+  entries = b.entries ∙ a.entries;
+  terms = λ n l. b.terms n (a.terms n l);
+}
+
 -- what is seen of a search stays
 pub seen-stays : (old new : State) → IsState old → Stays old new → seen new ≡ seen old
 seen-stays old new state stays =

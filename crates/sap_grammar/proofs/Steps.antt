@@ -3,7 +3,6 @@ use Rattle.std.proofs.Common.{◌≡◌, ◌<◌, ◌-◌, ℕ, zero, suc, List,
 use Rattle.sap_terms.specs.Signature.{Sig}
 use Rattle.sap_grammar.specs.Words.{Word}
 use Rattle.sap_grammar.specs.TermReading.{term, term_at, rest, rest_at}
-use Rattle.sap_grammar.proofs.ReadingLaws.Tokens.{words-drop}
 
 pub term_zero : (g : Sig) (ws : List Word) → term g 0 ws ≡ None
 unfolding term rest
@@ -22,5 +21,3 @@ pub rest_step : (g : Sig) (d : ℕ) (ws : List Word) → 0 < d → rest g d ws �
 unfolding term rest
 rest_step g zero ws lt = absurd (omega (arith, lt))
 rest_step g (suc d) ws lt = let e : suc d - 1 ≡ d = omega arith in rw e refl
-
-pub ruleset steps = (term_zero, rest_zero, term_step, rest_step, words-drop)

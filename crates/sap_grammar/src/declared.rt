@@ -113,8 +113,13 @@ pub fn read_declarations(alloc: Global, bytes: &[u8], tokens: &[Token]) -> Resul
     let mut rest = tokens;
     while !rest.is_empty() {
         let (item, behind) = split_item(bytes, rest);
-        declared.add_item(alloc, bytes, item)?;
-        rest = behind;
+        match declared.add_item(alloc, bytes, item) {
+            Ok(()) => rest = behind,
+            Err(mem) => {
+                drop(declared);
+                return Err(mem);
+            }
+        }
     }
     Ok(declared)
 }

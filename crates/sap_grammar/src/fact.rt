@@ -37,7 +37,7 @@ fn are_small(limits: Limits, args: &TermList) -> bool
     true
 }
 
-#[tactic(auto, using(crate::proofs::Steps::steps), unfolding(crate::specs::Reading::after))]
+#[tactic(auto, using(crate::proofs::ReadingLaws::Tokens::word_steps), unfolding(crate::specs::Reading::after))]
 fn read_fact_args<'a>(
     alloc: Global,
     sig: &Signature,
@@ -50,13 +50,17 @@ fn read_fact_args<'a>(
     ensures { Gives bytes.now (λ f. f) result (fact_args (term sig.now depth) persistent name.now
         (words_of bytes.now tokens.now)) }
 {
-    match read_args(alloc, sig, bytes, depth, tokens)? {
-        None => Ok(None),
-        Some((args, rest)) => Ok(Some((fact(alloc, persistent, name, args)?, rest))),
+    match read_args(alloc, sig, bytes, depth, tokens) {
+        Ok(Some((args, rest))) => match fact(alloc, persistent, name, args) {
+            Ok(fact) => Ok(Some((fact, rest))),
+            Err(mem) => Err(mem),
+        },
+        Ok(None) => Ok(None),
+        Err(mem) => Err(mem),
     }
 }
 
-#[tactic(auto, using(crate::proofs::Steps::steps), unfolding(crate::specs::Reading::given))]
+#[tactic(auto, using(crate::proofs::ReadingLaws::Tokens::word_steps), unfolding(crate::specs::Reading::given))]
 fn read_behind_sign<'a>(
     alloc: Global,
     sig: &Signature,
@@ -68,26 +72,21 @@ fn read_behind_sign<'a>(
     ensures { Gives bytes.now (λ f. f) result (fact_from (term sig.now depth) persistent
         (words_of bytes.now tokens.now)) }
 {
-    let Some(name) = name_at(bytes, tokens) else {
-        return Ok(None);
-    };
-    if is_upper(name) && starts(bytes, beyond(1, tokens), "(") {
-        read_fact_args(
-            alloc,
-            sig,
-            bytes,
-            depth,
-            persistent,
-            name,
-            beyond(2, tokens),
-        )
-    } else {
-        Ok(None)
+    match name_at(bytes, tokens) {
+        Some(name) => {
+            if is_upper(name) && starts(bytes, beyond(1, tokens), "(") {
+                let behind = beyond(2, tokens);
+                read_fact_args(alloc, sig, bytes, depth, persistent, name, behind)
+            } else {
+                Ok(None)
+            }
+        }
+        None => Ok(None),
     }
 }
 
 // A fact whose terms are read so deep at most, and the tokens behind it. As `read_deep` of terms.
-#[tactic(auto, using(crate::proofs::Steps::steps), unfolding(crate::specs::Reading::after))]
+#[tactic(auto, using(crate::proofs::ReadingLaws::Tokens::word_steps), unfolding(crate::specs::Reading::after))]
 fn read_deep<'a>(
     alloc: Global,
     sig: &Signature,
@@ -107,7 +106,7 @@ fn read_deep<'a>(
 
 /// The fact that the tokens begin with, whose terms are within the limits and which is persistent only where that is allowed,
 /// and the tokens behind it; None where there is none.
-#[tactic(auto, using(crate::proofs::Steps::steps), unfolding(crate::specs::Reading::after, crate::specs::TermReading::short_fact))]
+#[tactic(auto, using(crate::proofs::ReadingLaws::Tokens::word_steps), unfolding(crate::specs::Reading::after, crate::specs::TermReading::short_fact))]
 pub fn read_short_fact<'a>(
     alloc: Global,
     sig: &Signature,
@@ -120,16 +119,20 @@ pub fn read_short_fact<'a>(
         (words_of bytes.now tokens.now)) }
 {
     let depth = limits.term_levels as u64;
-    let Some((fact, rest)) = read_deep(alloc, sig, bytes, depth, tokens)? else {
-        return Ok(None);
-    };
-    if !are_small(limits, &fact.args) || (fact.persistent && !allowed) {
-        return Ok(None);
+    match read_deep(alloc, sig, bytes, depth, tokens) {
+        Ok(Some((fact, rest))) => {
+            if !are_small(limits, &fact.args) || (fact.persistent && !allowed) {
+                drop(fact);
+                return Ok(None);
+            }
+            Ok(Some((fact, rest)))
+        }
+        Ok(None) => Ok(None),
+        Err(mem) => Err(mem),
     }
-    Ok(Some((fact, rest)))
 }
 
-#[tactic(auto, using(crate::proofs::Steps::steps), unfolding(crate::specs::Reading::after))]
+#[tactic(auto, using(crate::proofs::ReadingLaws::Tokens::word_steps), unfolding(crate::specs::Reading::after))]
 fn read_fact_list<'a>(
     alloc: Global,
     sig: &Signature,
@@ -146,24 +149,27 @@ fn read_fact_list<'a>(
     let mut facts = FactList::new(alloc);
     let mut rest = tokens;
     while !rest.is_empty() {
-        let Some((fact, next)) = read_short_fact(alloc, sig, limits, bytes, allowed, rest)? else {
-            return Ok(None);
-        };
-        facts.push(fact)?;
-        if starts(bytes, next, closing) {
-            return Ok(Some((facts, beyond(1, next))));
+        match read_short_fact(alloc, sig, limits, bytes, allowed, rest) {
+            Ok(Some((fact, next))) => {
+                facts.push(fact)?;
+                if starts(bytes, next, closing) {
+                    return Ok(Some((facts, beyond(1, next))));
+                }
+                if !starts(bytes, next, ",") {
+                    return Ok(None);
+                }
+                rest = beyond(1, next);
+            }
+            Ok(None) => return Ok(None),
+            Err(mem) => return Err(mem),
         }
-        if !starts(bytes, next, ",") {
-            return Ok(None);
-        }
-        rest = beyond(1, next);
     }
     Ok(None)
 }
 
 /// Facts, none or more, with commas between them, up to the closing mark, each as `read_short_fact` reads it, and the
 /// tokens behind the mark; None where there are none such.
-#[tactic(auto, using(crate::proofs::Steps::steps), unfolding(crate::specs::Reading::after, crate::specs::TermReading::facts))]
+#[tactic(auto, using(crate::proofs::ReadingLaws::Tokens::word_steps), unfolding(crate::specs::Reading::after, crate::specs::TermReading::facts))]
 pub fn read_facts<'a>(
     alloc: Global,
     sig: &Signature,
@@ -200,12 +206,16 @@ pub fn read_fact(
 {
     let all = tokens.as_slice();
     let tokens = beyond(at as usize, all);
-    let Some((fact, rest)) = read_short_fact(alloc, sig, limits, bytes, true, tokens)? else {
-        return Ok(None);
-    };
-    if starts(bytes, rest, "(") {
-        Ok(None)
-    } else {
-        Ok(Some((fact, (all.len() - rest.len()) as u64)))
+    match read_short_fact(alloc, sig, limits, bytes, true, tokens) {
+        Ok(Some((fact, rest))) => {
+            if starts(bytes, rest, "(") {
+                drop(fact);
+                Ok(None)
+            } else {
+                Ok(Some((fact, (all.len() - rest.len()) as u64)))
+            }
+        }
+        Ok(None) => Ok(None),
+        Err(mem) => Err(mem),
     }
 }

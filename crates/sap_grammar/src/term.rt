@@ -50,17 +50,29 @@ fn two(alloc: Global, left: Term, right: Term) -> Result<TermList, Mem>
     ensures { IfOk result (λ ts. ts ≡ tree left ∷ tree right ∷ []) }
 {
     let mut parts = TermList::new(alloc);
-    parts.push(left)?;
-    parts.push(right)?;
+    match parts.push(left) {
+        Ok(()) => parts.push(right)?,
+        Err(mem) => {
+            drop(right);
+            return Err(mem);
+        }
+    }
     Ok(parts)
 }
 
 fn pair(alloc: Global, left: Term, right: Term) -> Result<Term, Mem>
     ensures { IfOk result (λ t. tree t ≡ pair (tree left) (tree right)) }
 {
-    let name = Name::from_bytes(alloc, b"pair")?;
-    let parts = two(alloc, left, right)?;
-    Ok(Term::App(name, parts))
+    match Name::from_bytes(alloc, b"pair") {
+        Ok(name) => match two(alloc, left, right) {
+            Ok(parts) => Ok(Term::App(name, parts)),
+            Err(mem) => Err(mem),
+        },
+        Err(mem) => {
+            drop((left, right));
+            Err(mem)
+        }
+    }
 }
 
 // The pair of a term and what was read behind it.
@@ -74,9 +86,18 @@ fn paired<'a>(
         → Gives bytes tree result (after read (λ u z. Some (pair (tree left) u, z))) }
 {
     match right {
-        Err(mem) => Err(mem),
-        Ok(None) => Ok(None),
-        Ok(Some((right, end))) => Ok(Some((pair(alloc, left, right)?, end))),
+        Ok(Some((right, end))) => match pair(alloc, left, right) {
+            Ok(term) => Ok(Some((term, end))),
+            Err(mem) => Err(mem),
+        },
+        Ok(None) => {
+            drop(left);
+            Ok(None)
+        }
+        Err(mem) => {
+            drop(left);
+            Err(mem)
+        }
     }
 }
 
@@ -86,7 +107,7 @@ fn quoted(alloc: Global, content: &[u8]) -> Result<Term, Mem>
     Ok(Term::Public(Name::from_bytes(alloc, content)?))
 }
 
-#[tactic(auto, using(crate::proofs::Steps::steps), unfolding(crate::specs::Reading::given))]
+#[tactic(auto, using(crate::proofs::ReadingLaws::Tokens::word_steps), unfolding(crate::specs::Reading::given))]
 fn read_signed<'a>(
     alloc: Global,
     bytes: &[u8],
@@ -116,17 +137,20 @@ fn read_list<'a>(
     let mut terms = TermList::new(alloc);
     let mut rest = tokens;
     while !rest.is_empty() {
-        let Some((term, next)) = read_deep(alloc, sig, bytes, depth, rest)? else {
-            return Ok(None);
-        };
-        terms.push(term)?;
-        if starts(bytes, next, ")") {
-            return Ok(Some((terms, beyond(1, next))));
+        match read_deep(alloc, sig, bytes, depth, rest) {
+            Ok(Some((term, next))) => {
+                terms.push(term)?;
+                if starts(bytes, next, ")") {
+                    return Ok(Some((terms, beyond(1, next))));
+                }
+                if !starts(bytes, next, ",") {
+                    return Ok(None);
+                }
+                rest = beyond(1, next);
+            }
+            Ok(None) => return Ok(None),
+            Err(mem) => return Err(mem),
         }
-        if !starts(bytes, next, ",") {
-            return Ok(None);
-        }
-        rest = beyond(1, next);
     }
     Ok(None)
 }
@@ -167,12 +191,13 @@ fn read_symbol<'a>(
     if !is_lower(name) {
         return Ok(None);
     }
-    match read_args(alloc, sig, bytes, depth, tokens)? {
-        None => Ok(None),
-        Some((args, rest)) => {
-            let name = Name::from_bytes(alloc, name)?;
-            Ok(Some((Term::App(name, args), rest)))
-        }
+    match read_args(alloc, sig, bytes, depth, tokens) {
+        Ok(Some((args, rest))) => match Name::from_bytes(alloc, name) {
+            Ok(name) => Ok(Some((Term::App(name, args), rest))),
+            Err(mem) => Err(mem),
+        },
+        Ok(None) => Ok(None),
+        Err(mem) => Err(mem),
     }
 }
 
@@ -192,7 +217,10 @@ fn read_named<'a>(
     if starts(bytes, tokens, "(") {
         read_symbol(alloc, sig, bytes, depth, name, beyond(1, tokens))
     } else {
-        Ok(Some((plain(alloc, sig, name)?, tokens)))
+        match plain(alloc, sig, name) {
+            Ok(term) => Ok(Some((term, tokens))),
+            Err(mem) => Err(mem),
+        }
     }
 }
 
@@ -231,9 +259,10 @@ fn read_tuple<'a>(
     ensures { Gives bytes.now tree result (tuple (term sig.now depth) (rest sig.now depth)
         (words_of bytes.now tokens.now)) }
 {
-    match read_deep(alloc, sig, bytes, depth, tokens)? {
-        None => Ok(None),
-        Some((left, next)) => read_second(alloc, sig, bytes, depth, left, next),
+    match read_deep(alloc, sig, bytes, depth, tokens) {
+        Ok(Some((left, next))) => read_second(alloc, sig, bytes, depth, left, next),
+        Ok(None) => Ok(None),
+        Err(mem) => Err(mem),
     }
 }
 
@@ -251,15 +280,16 @@ fn read_rest<'a>(
     if depth == 0 {
         return Ok(None);
     }
-    match read_deep(alloc, sig, bytes, depth, tokens)? {
-        None => Ok(None),
-        Some((left, next)) => {
+    match read_deep(alloc, sig, bytes, depth, tokens) {
+        Ok(Some((left, next))) => {
             if starts(bytes, next, ">") {
                 Ok(Some((left, beyond(1, next))))
             } else {
                 read_second(alloc, sig, bytes, depth - 1, left, next)
             }
         }
+        Ok(None) => Ok(None),
+        Err(mem) => Err(mem),
     }
 }
 
@@ -301,12 +331,15 @@ fn read_leaf<'a>(
     ensures { Gives bytes.now tree result (leaf sig.now (term sig.now depth) (quoted_at
         (words_of bytes.now tokens.now)) (words_of bytes.now tokens.now)) }
 {
-    if let Some(content) = quoted_at(bytes, tokens) {
-        return Ok(Some((quoted(alloc, content)?, beyond(1, tokens))));
-    }
-    match name_at(bytes, tokens) {
-        None => Ok(None),
-        Some(name) => read_named(alloc, sig, bytes, depth, name, beyond(1, tokens)),
+    match quoted_at(bytes, tokens) {
+        Some(content) => match quoted(alloc, content) {
+            Ok(term) => Ok(Some((term, beyond(1, tokens)))),
+            Err(mem) => Err(mem),
+        },
+        None => match name_at(bytes, tokens) {
+            Some(name) => read_named(alloc, sig, bytes, depth, name, beyond(1, tokens)),
+            None => Ok(None),
+        },
     }
 }
 
@@ -329,7 +362,7 @@ pub(crate) fn is_small(limits: Limits, term: &Term) -> bool
 
 /// The term within the limits that the tokens begin with, and the tokens behind it; None where there is none. As
 /// `read_term` but for what stands behind it, which may be anything.
-#[tactic(auto, using(crate::proofs::Steps::steps), unfolding(crate::specs::Reading::after, crate::specs::TermReading::short_term))]
+#[tactic(auto, using(crate::proofs::ReadingLaws::Tokens::word_steps), unfolding(crate::specs::Reading::after, crate::specs::TermReading::short_term))]
 pub fn read_short_term<'a>(
     alloc: Global,
     sig: &Signature,
@@ -341,13 +374,17 @@ pub fn read_short_term<'a>(
         (words_of bytes.now tokens.now)) }
 {
     let depth = limits.term_levels as u64;
-    let Some((term, rest)) = read_deep(alloc, sig, bytes, depth, tokens)? else {
-        return Ok(None);
-    };
-    if is_small(limits, &term) {
-        Ok(Some((term, rest)))
-    } else {
-        Ok(None)
+    match read_deep(alloc, sig, bytes, depth, tokens) {
+        Ok(Some((term, rest))) => {
+            if is_small(limits, &term) {
+                Ok(Some((term, rest)))
+            } else {
+                drop(term);
+                Ok(None)
+            }
+        }
+        Ok(None) => Ok(None),
+        Err(mem) => Err(mem),
     }
 }
 
@@ -370,12 +407,16 @@ pub fn read_term(
 {
     let all = tokens.as_slice();
     let tokens = beyond(at as usize, all);
-    let Some((term, rest)) = read_short_term(alloc, sig, limits, bytes, tokens)? else {
-        return Ok(None);
-    };
-    if starts(bytes, rest, "(") {
-        Ok(None)
-    } else {
-        Ok(Some((term, (all.len() - rest.len()) as u64)))
+    match read_short_term(alloc, sig, limits, bytes, tokens) {
+        Ok(Some((term, rest))) => {
+            if starts(bytes, rest, "(") {
+                drop(term);
+                Ok(None)
+            } else {
+                Ok(Some((term, (all.len() - rest.len()) as u64)))
+            }
+        }
+        Ok(None) => Ok(None),
+        Err(mem) => Err(mem),
     }
 }

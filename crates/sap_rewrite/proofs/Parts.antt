@@ -9,7 +9,8 @@ use Rattle.sap_terms.specs.View.{tree}
 use Rattle.sap_terms.specs.declared.term.Term.{Term}
 use Rattle.sap_terms.specs.declared.term.Term.TheVariants.{Var, Public, Fresh, App}
 use Rattle.sap_terms.specs.Equations.{Equations, app0, true_name, pair_name, fst_name, snd_name, sdec_name, adec_name, reveal_sign_name, get_message_name}
-use Rattle.sap_rewrite.specs.code.Reduce.{guard, or_else, first_part, second_part, opened, opened_by_key, by_part, by_check, inner_part, place, reduced}
+use Rattle.sap_parts.specs.Parts.{guard, first_part, second_part, opened, opened_by_key}
+use Rattle.sap_rewrite.specs.code.Reduce.{or_else, by_part, by_check, inner_part, place, reduced}
 use Rattle.sap_rewrite.proofs.Sound.{first_part-shape, second_part-shape, opened-shape, opened_by_key-shape}
 
 -- there is no part, or it stands at the place

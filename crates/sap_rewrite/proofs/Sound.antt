@@ -5,7 +5,8 @@ use Rattle.std.proofs.lemmas.Slice.Eq.{bytes_eq-Decides}
 use Rattle.std.specs.Str.{bytes_eq}
 use Rattle.sap_terms.specs.Tree.{Tree, variable, public, fresh, apply, Trees, none, more}
 use Rattle.sap_terms.specs.Equations.{Equations, IsInstance, first, second, symmetric, asymmetric, signing, revealing, revealed, pair_name, fst_name, snd_name, senc_name, sdec_name, aenc_name, adec_name, pk_name, sign_name, verify_name, reveal_sign_name, reveal_verify_name, get_message_name, true_name, app0, app1, app2}
-use Rattle.sap_rewrite.specs.code.Reduce.{guard, or_else, args1, args2, args3, under, parts_under, owner_of, first_part, second_part, opened, opened_by_key, verified, by_first, by_second, by_symmetric, by_asymmetric, by_signing, by_revealing, by_revealed, by_check, contracted}
+use Rattle.sap_parts.specs.Parts.{guard, args1, args2, args3, under, parts_under, owner_of, first_part, second_part, opened, opened_by_key, verified}
+use Rattle.sap_rewrite.specs.code.Reduce.{or_else, by_first, by_second, by_symmetric, by_asymmetric, by_signing, by_revealing, by_revealed, by_check, contracted}
 use Rattle.sap_terms.specs.Same.{same_tree}
 use Rattle.sap_terms.proofs.PlainLaws.Tests.{same_tree-sound, same_tree-refl, and_left, and_right}
 

@@ -15,7 +15,7 @@ use Rattle.sap_terms.proofs.PlainLaws.Tests.{same_tree-sound, same_tree-refl, sa
 use Rattle.sap_terms.specs.Choice.{fits_sort}
 use Rattle.sap_rewrite.specs.Match.{AllSorted, names, Extends}
 use Rattle.sap_terms.specs.Variables.{is_known, new_vars}
-use Rattle.sap_rewrite.specs.code.Reduce.{guard, ◌>>=◌}
+use Rattle.sap_parts.specs.Parts.{guard, ◌>>=◌}
 use Rattle.sap_rewrite.specs.code.Walk.{bound, match_variable, match_tree, match_trees}
 use Rattle.sap_rewrite.proofs.Skips.{met_vars, all_met_vars, FitsBut, AllFitBut}
 

@@ -7,7 +7,6 @@ mod matching;
 mod message;
 mod normal_form;
 mod reduce;
-mod shape;
 mod within;
 
 pub use cut::Cut;

@@ -6,7 +6,7 @@ ghost use Rattle.sap_terms.specs.Tree.{apply, trees_of};
 ghost use Rattle.sap_terms.specs.Equations.{equations, app0, true_name};
 ghost use Rattle.sap_rewrite.specs.code.Reduce.{inner_part, place, by_signing, by_revealing, by_check, reduced};
 
-use crate::shape::{first_part, opened, opened_by_key, second_part, verifies};
+use sap_parts::{first_part, opened, opened_by_key, second_part, verifies};
 use sap_terms::{Builtin, Copied, Mem, Name, Signature, Term, TermList};
 use std::alloc::Global;
 

@@ -29,9 +29,27 @@ pub fn number_bindings(
     let mut env = Env::along(alloc, order)?;
     for i in 0..b.len() {
         let e = b.at(i);
-        let id = table.put(alloc, &e.term)?;
-        let var = e.var.copy(alloc)?;
-        env.push(Bound { var, id })?;
+        let id = match table.put(alloc, &e.term) {
+            Ok(id) => id,
+            Err(e) => {
+                drop(env);
+                return Err(e);
+            }
+        };
+        let var = match e.var.copy(alloc) {
+            Ok(var) => var,
+            Err(e) => {
+                drop(env);
+                return Err(e);
+            }
+        };
+        match env.push(Bound { var, id }) {
+            Ok(()) => {}
+            Err(e) => {
+                drop(env);
+                return Err(e);
+            }
+        }
     }
     Ok(env)
 }

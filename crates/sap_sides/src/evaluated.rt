@@ -29,7 +29,10 @@ pub fn forms_of_facts(
 {
     let mut out = FactList::new(alloc);
     for k in 0..fs.len() {
-        out.push(form_of_fact(alloc, sig, fs.at(k), c)?)?;
+        match form_of_fact(alloc, sig, fs.at(k), c) {
+            Ok(f) => out.push(f)?,
+            Err(cut) => return Err(cut),
+        }
     }
     Ok(out)
 }
@@ -40,14 +43,18 @@ fn form_of_fact(alloc: Global, sig: &Signature, f: &Fact, c: &Bindings) -> Resul
     ensures within { OnOk result (SomeLarge sig.now (map (subst_tree c.now) f.now.args) → ⊥) }
     ensures large { IsErrOf result Cut.Large → SomeLarge sig.now (map (subst_tree c.now) f.now.args) }
 {
-    let args = forms_of_args(alloc, sig, &f.args, c)?;
     let name = f.name.copy(alloc)?;
-    let persistent = f.persistent;
-    Ok(Fact {
-        name,
-        persistent,
-        args,
-    })
+    match forms_of_args(alloc, sig, &f.args, c) {
+        Ok(args) => Ok(Fact {
+            name,
+            persistent: f.persistent,
+            args,
+        }),
+        Err(cut) => {
+            drop(name);
+            Err(cut)
+        }
+    }
 }
 
 // Those of arguments.
@@ -63,7 +70,10 @@ fn forms_of_args(
 {
     let mut out = TermList::new(alloc);
     for k in 0..ts.len() {
-        out.push(form(alloc, sig, ts.at(k), c)?)?;
+        match form(alloc, sig, ts.at(k), c) {
+            Ok(t) => out.push(t)?,
+            Err(cut) => return Err(cut),
+        }
     }
     Ok(out)
 }

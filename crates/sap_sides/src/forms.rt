@@ -90,8 +90,12 @@ fn form_acts(table: &mut Table, alloc: Global, env: &Env, fs: &FactList) -> Resu
     ensures keeps { Keeps table.old table.new }
 {
     let shared = form_facts(table, alloc, env, fs)?;
-    let acts = built_facts(table, alloc, shared.as_slice())?;
-    Ok(acts)
+    let built = built_facts(table, alloc, shared.as_slice());
+    drop(shared);
+    match built {
+        Ok(acts) => Ok(acts),
+        Err(_) => Err(Cut::Mem),
+    }
 }
 
 /// What a rule with these acts and this right side shows and adds under what is bound; Large where the normal form of a

@@ -26,9 +26,10 @@ pub fn match_facts(
     facts_fit_in_turn();
     let mut c = b;
     for k in 0..fs.len() {
-        match match_fact(alloc, sig, fs.at(k), cited.at(k), c)? {
-            Some(d) => c = d,
-            None => return Ok(None),
+        match match_fact(alloc, sig, fs.at(k), cited.at(k), c) {
+            Ok(Some(d)) => c = d,
+            Ok(None) => return Ok(None),
+            Err(e) => return Err(e),
         }
     }
     Ok(Some(c))
@@ -73,9 +74,10 @@ fn match_args(
     }
     let mut c = b;
     for k in 0..ps.len() {
-        match match_around(alloc, sig, ps.at(k), ts.at(k), c)? {
-            Some(d) => c = d,
-            None => return Ok(None),
+        match match_around(alloc, sig, ps.at(k), ts.at(k), c) {
+            Ok(Some(d)) => c = d,
+            Ok(None) => return Ok(None),
+            Err(e) => return Err(e),
         }
     }
     Ok(Some(c))

@@ -114,10 +114,13 @@ impl SharedPile {
     fn push_held(&self, alloc: Global, k: u64, out: &mut Vec<SharedFact>) -> Result<(), Mem>
         ensures { OnOk result (out.new.items ≡ out.old.items ++ held_each self.now (k ∷ [])) }
     {
-        if let Some(f) = self.get(k) {
-            out.push(f.copy(alloc)?)?;
+        match self.get(k) {
+            Some(f) => match f.copy(alloc) {
+                Ok(copy) => Ok(out.push(copy)?),
+                Err(e) => Err(e),
+            },
+            None => Ok(()),
         }
-        Ok(())
     }
 
     // Copies of the facts with these numbers that stand.

@@ -96,11 +96,25 @@ fn start<T: Drop>(
     ensures ok { OnOk result (Puts pairs.old.entries pairs.new.entries name.now (Some (item ∷ []))) }
     ensures err { OnErr result (pairs.new.entries ≡ pairs.old.entries) }
 {
-    let mut items = Items::new(alloc);
-    items.push(item)?;
-    let copy = name.copy(alloc)?;
-    pairs.insert(copy, items)?;
-    Ok(())
+    match name.copy(alloc) {
+        Ok(copy) => {
+            let mut items = Items::new(alloc);
+            match items.push(item) {
+                Ok(()) => {
+                    pairs.insert(copy, items)?;
+                    Ok(())
+                }
+                Err(e) => {
+                    drop(copy);
+                    Err(e)
+                }
+            }
+        }
+        Err(e) => {
+            drop(item);
+            Err(e)
+        }
+    }
 }
 
 // Puts the item last in the name's list.

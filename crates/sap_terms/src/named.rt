@@ -126,9 +126,21 @@ impl<T: HasName + Drop> Named<T> {
         ensures ok { OnOk result (self.new ≡ self.old ++ item ∷ []) }
         ensures err { OnErr result (self.new ≡ self.old) }
     {
-        let name = item.name().copy(self.items.allocator())?;
+        let name = match item.name().copy(self.items.allocator()) {
+            Ok(name) => name,
+            Err(e) => {
+                drop(item);
+                return Err(e);
+            }
+        };
         let last = self.items.len();
-        self.items.push(item)?;
+        match self.items.push(item) {
+            Ok(()) => {}
+            Err(e) => {
+                drop(name);
+                return Err(e);
+            }
+        }
         match self.places.keep(name, last) {
             Ok(first) => Ok(first),
             Err(e) => {
@@ -183,7 +195,10 @@ impl<T: HasName + Copied + Drop> Named<T> {
         ensures { OnOk result (self.new ≡ self.old ++ items.now) }
     {
         for x in items {
-            self.push(x.copy(alloc)?)?;
+            match x.copy(alloc) {
+                Ok(item) => self.push(item)?,
+                Err(e) => return Err(e),
+            }
         }
         Ok(())
     }

@@ -137,6 +137,7 @@ impl Signature {
         match held(&self.symbols, &name) {
             Some(s) => {
                 if s.arity == arity && s.private == private {
+                    drop(name);
                     Ok(())
                 } else {
                     Err(SigFault::Clash { name })
@@ -185,11 +186,21 @@ fn public_symbols(alloc: Global, rows: &[(&[u8], u64)]) -> Result<Named<Symbol>,
 {
     let mut symbols = Named::new(alloc);
     for row in rows {
-        symbols.push(Symbol {
-            name: Name::from_bytes(alloc, row.0)?,
-            arity: row.1,
-            private: false,
-        })?;
+        let pushed = match Name::from_bytes(alloc, row.0) {
+            Ok(name) => symbols.push(Symbol {
+                name,
+                arity: row.1,
+                private: false,
+            }),
+            Err(e) => Err(e),
+        };
+        match pushed {
+            Ok(()) => {}
+            Err(e) => {
+                drop(symbols);
+                return Err(e);
+            }
+        }
     }
     Ok(symbols)
 }
@@ -343,7 +354,9 @@ impl Signature {
         }
         let alloc = self.symbols.allocator();
         let added = public_symbols(alloc, rows_of(b))?;
-        join(&mut self.symbols, &added)?;
+        let joined = join(&mut self.symbols, &added);
+        drop(added);
+        joined?;
         self.builtins = self.builtins.including(b);
         Ok(())
     }

@@ -29,7 +29,13 @@ pub fn subst(alloc: Global, t: &Term, b: &Bindings) -> Result<Term, Mem>
 {
     match t {
         Term::Var(v) => bound_to(b, v, t).copy(alloc),
-        Term::App(f, args) => Ok(Term::App(f.copy(alloc)?, subst_all(alloc, args, b)?)),
+        Term::App(f, args) => {
+            let name = f.copy(alloc)?;
+            match subst_all(alloc, args, b) {
+                Ok(args) => Ok(Term::App(name, args)),
+                Err(e) => Err(e),
+            }
+        }
         _ => t.copy(alloc),
     }
 }
@@ -41,7 +47,10 @@ fn subst_all(alloc: Global, ts: &TermList, b: &Bindings) -> Result<TermList, Mem
 {
     let mut out = TermList::with_room(alloc, ts.len())?;
     for k in 0..ts.len() {
-        out.push(subst(alloc, ts.at(k), b)?)?;
+        match subst(alloc, ts.at(k), b) {
+            Ok(t) => out.push(t)?,
+            Err(e) => return Err(e),
+        }
     }
     Ok(out)
 }

@@ -293,7 +293,13 @@ impl Copied for Term {
             Term::Var(v) => Ok(Term::Var(v.copy(alloc)?)),
             Term::Public(n) => Ok(Term::Public(n.copy(alloc)?)),
             Term::Fresh(k) => Ok(Term::Fresh(*k)),
-            Term::App(f, args) => Ok(Term::App(f.copy(alloc)?, args.copy(alloc)?)),
+            Term::App(f, args) => {
+                let name = f.copy(alloc)?;
+                match args.copy(alloc) {
+                    Ok(args) => Ok(Term::App(name, args)),
+                    Err(e) => Err(e),
+                }
+            }
         }
     }
 }

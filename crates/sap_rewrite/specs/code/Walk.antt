@@ -8,7 +8,7 @@ use Rattle.sap_terms.specs.Tree.{Tree, variable, public, fresh, apply, Trees, no
 use Rattle.sap_terms.specs.View.{tree, term}
 use Rattle.sap_terms.specs.Choice.{fits_sort}
 use Rattle.sap_terms.specs.Signature.{Sig, is_destructor_of}
-use Rattle.sap_rewrite.specs.code.Reduce.{guard, ◌>>=◌}
+use Rattle.sap_parts.specs.Parts.{guard, ◌>>=◌}
 
 -- the tree that is bound to a name
 abbrev pub bound : List Binding → List ℕ → Option Tree

@@ -7,7 +7,7 @@ pub loop-rest-preserved : goal.loop-rest-preserved
 loop-rest-preserved c =
     let turned = turn_declared c.args.bytes.now c.args.tokens.now c.loop-rest.rest.now c.split_item.result.0.now c.split_item.result.1.now c.split_item.ensures.item
     c.loop-rest.declared.signature c.add_item.new.self.signature c.loop-rest.declared.clash c.add_item.new.self.clash
-    c.loop-rest.invariant.signature c.loop-rest.invariant.clash c.in_ok-add_item.ensures.signature c.in_ok-add_item.ensures.clash in
+    c.loop-rest.invariant.signature c.loop-rest.invariant.clash c.in-Ok.ensures.signature c.in-Ok.ensures.clash in
     record { signature = turned.0; clash = turned.1 }
 
 pub returns : goal.returns

@@ -5,27 +5,27 @@ use Rattle.sap_grammar.specs.TermReading.{short_fact}
 use Rattle.sap_grammar.proofs.Places.{fact_reader, nothing_at, no_other_at, it_is_at, rest_within}
 use Rattle.sap_grammar.proofs.fact.read_fact.Goals as goal
 
-pub returns-in_default-clause-none : goal.returns-in_default-clause-none
-returns-in_default-clause-none c =
-    let none : short_fact c.args.sig.now c.args.limits true (words_of c.args.bytes.now (drop c.args.at c.args.tokens.now.items)) ≡ None = rw (c.in_default.is, c.beyond-tokens.ensures, c.as_slice-all.ensures.value) at c.in_ok-fact.ensures in
+pub returns-in-Ok-None-clause-none : goal.returns-in-Ok-None-clause-none
+returns-in-Ok-None-clause-none c =
+    let none : short_fact c.args.sig.now c.args.limits true (words_of c.args.bytes.now (drop c.args.at c.args.tokens.now.items)) ≡ None = rw (c.in-Ok-None.field-0-is, c.beyond-tokens.ensures, c.as_slice-all.ensures.value) at c.in-Ok-None.ensures in
     nothing_at (fact_reader c.args.sig.now c.args.limits) _ _ c.args.at none
 
 pub overflow_sub-result : goal.overflow_sub-result
 overflow_sub-result c =
-    let is : short_fact c.args.sig.now c.args.limits true (words_of c.args.bytes.now (drop c.args.at c.args.tokens.now.items)) ≡ Some (c.in-Some.fact, words_of c.args.bytes.now c.in-Some.rest.now) =
-    rw (c.in-Some.is, c.beyond-tokens.ensures, c.as_slice-all.ensures.value) at c.in_ok-fact.ensures in
+    let is : short_fact c.args.sig.now c.args.limits true (words_of c.args.bytes.now (drop c.args.at c.args.tokens.now.items)) ≡ Some (c.in-Ok-Some.fact, words_of c.args.bytes.now c.in-Ok-Some.rest.now) =
+    rw (c.in-Ok-Some.field-0-is, c.beyond-tokens.ensures, c.as_slice-all.ensures.value) at c.in-Ok-Some.ensures in
     rw c.as_slice-all.ensures.value (rest_within (fact_reader c.args.sig.now c.args.limits) _ _ c.args.at _ _ is)
 
 pub returns-then-starts-clause-none : goal.returns-then-starts-clause-none
 returns-then-starts-clause-none c =
-    let is : short_fact c.args.sig.now c.args.limits true (words_of c.args.bytes.now (drop c.args.at c.args.tokens.now.items)) ≡ Some (c.in-Some.fact, words_of c.args.bytes.now c.in-Some.rest.now) =
-    rw (c.in-Some.is, c.beyond-tokens.ensures, c.as_slice-all.ensures.value) at c.in_ok-fact.ensures in
-    let opened : starts (codes "(") (words_of c.args.bytes.now c.in-Some.rest.now) ≡ true = cc in
+    let is : short_fact c.args.sig.now c.args.limits true (words_of c.args.bytes.now (drop c.args.at c.args.tokens.now.items)) ≡ Some (c.in-Ok-Some.fact, words_of c.args.bytes.now c.in-Ok-Some.rest.now) =
+    rw (c.in-Ok-Some.field-0-is, c.beyond-tokens.ensures, c.as_slice-all.ensures.value) at c.in-Ok-Some.ensures in
+    let opened : starts (codes "(") (words_of c.args.bytes.now c.in-Ok-Some.rest.now) ≡ true = cc in
     no_other_at (fact_reader c.args.sig.now c.args.limits) _ _ c.args.at _ _ is opened
 
 pub returns-else-starts-clause-found : goal.returns-else-starts-clause-found
 returns-else-starts-clause-found c =
-    let is : short_fact c.args.sig.now c.args.limits true (words_of c.args.bytes.now (drop c.args.at c.args.tokens.now.items)) ≡ Some (c.in-Some.fact, words_of c.args.bytes.now c.in-Some.rest.now) =
-    rw (c.in-Some.is, c.beyond-tokens.ensures, c.as_slice-all.ensures.value) at c.in_ok-fact.ensures in
-    let ends : starts (codes "(") (words_of c.args.bytes.now c.in-Some.rest.now) ≡ false = cc in
+    let is : short_fact c.args.sig.now c.args.limits true (words_of c.args.bytes.now (drop c.args.at c.args.tokens.now.items)) ≡ Some (c.in-Ok-Some.fact, words_of c.args.bytes.now c.in-Ok-Some.rest.now) =
+    rw (c.in-Ok-Some.field-0-is, c.beyond-tokens.ensures, c.as_slice-all.ensures.value) at c.in-Ok-Some.ensures in
+    let ends : starts (codes "(") (words_of c.args.bytes.now c.in-Ok-Some.rest.now) ≡ false = cc in
     rw c.as_slice-all.ensures.value (it_is_at (fact_reader c.args.sig.now c.args.limits) _ _ c.args.at _ _ is ends)

@@ -71,29 +71,29 @@ read_deep-returns-else-starts-3 t c =
 pub read_rest-returns-then-depth-eq0 : goal.read_rest-returns-then-depth-eq0
 read_rest-returns-then-depth-eq0 t c = rw c.if-depth-eq0.true (rest_zero _ _)
 
-pub read_rest-returns-in-None : goal.read_rest-returns-in-None
-read_rest-returns-in-None t c = rest_nothing _ _ _ (omega arith) (rw c.in-None.is at c.in_ok-read_deep.ensures)
+pub read_rest-returns-in-Ok-None : goal.read_rest-returns-in-Ok-None
+read_rest-returns-in-Ok-None t c = rest_nothing _ _ _ (omega arith) (rw c.in-Ok-None.field-0-is at c.in-Ok-None.ensures)
 
 pub read_rest-returns-then-starts : goal.read_rest-returns-then-starts
 read_rest-returns-then-starts t c =
-    let read : term c.args.sig.now c.args.depth (words_of c.args.bytes.now c.args.tokens.now) ≡ Some (tree c.in-Some.left, words_of c.args.bytes.now c.in-Some.next.now) = rw c.in-Some.is at c.in_ok-read_deep.ensures in
-    rw (c.beyond.ensures, words-drop c.args.bytes.now 1 c.in-Some.next.now)
+    let read : term c.args.sig.now c.args.depth (words_of c.args.bytes.now c.args.tokens.now) ≡ Some (tree c.in-Ok-Some.left, words_of c.args.bytes.now c.in-Ok-Some.next.now) = rw c.in-Ok-Some.field-0-is at c.in-Ok-Some.ensures in
+    rw (c.beyond.ensures, words-drop c.args.bytes.now 1 c.in-Ok-Some.next.now)
     (rest_last _ _ _ (omega arith) _ _ read c.if-starts.ensures)
 
 pub read_rest-returns-else-starts : goal.read_rest-returns-else-starts
 read_rest-returns-else-starts t c =
-    let read : term c.args.sig.now c.args.depth (words_of c.args.bytes.now c.args.tokens.now) ≡ Some (tree c.in-Some.left, words_of c.args.bytes.now c.in-Some.next.now) = rw c.in-Some.is at c.in_ok-read_deep.ensures in
+    let read : term c.args.sig.now c.args.depth (words_of c.args.bytes.now c.args.tokens.now) ≡ Some (tree c.in-Ok-Some.left, words_of c.args.bytes.now c.in-Ok-Some.next.now) = rw c.in-Ok-Some.field-0-is at c.in-Ok-Some.ensures in
     rw (rest_goes_on _ _ _ (omega arith) _ _ read c.if-starts.ensures) c.read_second.ensures
 
 pub read_list-loop-rest-smaller : goal.read_list-loop-rest-smaller
 read_list-loop-rest-smaller t c =
-    let is : term c.args.sig.now c.args.depth (words_of c.args.bytes.now c.loop-rest.rest.now) ≡ Some (tree c.in-Some.term, words_of c.args.bytes.now c.in-Some.next.now) = rw c.in-Some.is at c.in_ok-term.ensures in
+    let is : term c.args.sig.now c.args.depth (words_of c.args.bytes.now c.loop-rest.rest.now) ≡ Some (tree c.in-Ok-Some.term, words_of c.args.bytes.now c.in-Ok-Some.next.now) = rw c.in-Ok-Some.field-0-is at c.in-Ok-Some.ensures in
     shorter_still (term_shrinks c.args.sig.now c.args.depth) _ _ _ _ _ is c.beyond-rest.ensures
 
 pub read_list-loop-rest-preserved : goal.read_list-loop-rest-preserved
 read_list-loop-rest-preserved t c =
-    let is : term c.args.sig.now c.args.depth (words_of c.args.bytes.now c.loop-rest.rest.now) ≡ Some (tree c.in-Some.term, words_of c.args.bytes.now c.in-Some.next.now) = rw c.in-Some.is at c.in_ok-term.ensures in
-    let pushed : c.push.new.self ≡ c.loop-rest.terms ++ (tree c.in-Some.term ∷ []) = grind (arith, common_steps) in
+    let is : term c.args.sig.now c.args.depth (words_of c.args.bytes.now c.loop-rest.rest.now) ≡ Some (tree c.in-Ok-Some.term, words_of c.args.bytes.now c.in-Ok-Some.next.now) = rw c.in-Ok-Some.field-0-is at c.in-Ok-Some.ensures in
+    let pushed : c.push.new.self ≡ c.loop-rest.terms ++ (tree c.in-Ok-Some.term ∷ []) = grind (arith, common_steps) in
     turn_go _ (term_shrinks c.args.sig.now c.args.depth) _ _ _ _ _ c.loop-rest.invariant.1 c.loop-rest.invariant.2 _ _ is _ _ pushed c.beyond-rest.ensures (cc) (cc)
 
 pub read_list-returns : goal.read_list-returns

@@ -19,17 +19,17 @@ put-requires-clause-over c =
 pub loop-i-preserved : goal.loop-i-preserved
 loop-i-preserved c =
     let h = c.loop-i.invariant in
-    let m = bind_more c.loop-i.table c.put.new.self c.args.b.now c.loop-i.i c.at-e.result.now c.loop-i.env c.push.new.self (record { var = c.in_ok-var.var; id = c.in_ok-id.id }) h.are h.bound c.in_ok-id.ensures.gives c.in_ok-var.ensures c.at-e.ensures c.in_ok-push.ensures.ok in
-    record { are = m.0; bound = m.1; keeps = keeps-both c.args.table.now c.loop-i.table c.put.new.self h.keeps c.in_ok-id.ensures.keeps }
+    let m = bind_more c.loop-i.table c.put.new.self c.args.b.now c.loop-i.i c.at-e.result.now c.loop-i.env c.push.new.self (record { var = c.in-Ok-copy.var; id = c.in-Ok.id }) h.are h.bound c.in-Ok.ensures.gives c.in-Ok-copy.ensures c.at-e.ensures c.in-Ok-push.ensures.ok in
+    record { are = m.0; bound = m.1; keeps = keeps-both c.args.table.now c.loop-i.table c.put.new.self h.keeps c.in-Ok.ensures.keeps }
 
-pub returns-in_err-id-clause-keeps : goal.returns-in_err-id-clause-keeps
-returns-in_err-id-clause-keeps c = keeps-both c.args.table.now c.loop-i.table c.put.new.self c.loop-i.invariant.keeps c.in_err-id.ensures.keeps
+pub returns-in-Err-clause-keeps : goal.returns-in-Err-clause-keeps
+returns-in-Err-clause-keeps c = keeps-both c.args.table.now c.loop-i.table c.put.new.self c.loop-i.invariant.keeps c.in-Err.ensures.keeps
 
-pub returns-in_err-var-clause-keeps : goal.returns-in_err-var-clause-keeps
-returns-in_err-var-clause-keeps c = keeps-both c.args.table.now c.loop-i.table c.put.new.self c.loop-i.invariant.keeps c.in_ok-id.ensures.keeps
+pub returns-in-Err-copy-clause-keeps : goal.returns-in-Err-copy-clause-keeps
+returns-in-Err-copy-clause-keeps c = keeps-both c.args.table.now c.loop-i.table c.put.new.self c.loop-i.invariant.keeps c.in-Ok.ensures.keeps
 
-pub returns-in_err-push-clause-keeps : goal.returns-in_err-push-clause-keeps
-returns-in_err-push-clause-keeps c = keeps-both c.args.table.now c.loop-i.table c.put.new.self c.loop-i.invariant.keeps c.in_ok-id.ensures.keeps
+pub returns-in-Err-push-clause-keeps : goal.returns-in-Err-push-clause-keeps
+returns-in-Err-push-clause-keeps c = keeps-both c.args.table.now c.loop-i.table c.put.new.self c.loop-i.invariant.keeps c.in-Ok.ensures.keeps
 
 pub returns-clause-are : goal.returns-clause-are
 returns-clause-are c =

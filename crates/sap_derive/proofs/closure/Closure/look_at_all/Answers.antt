@@ -44,3 +44,6 @@ returns-clause-ok c k w a =
     let l = i.within k w a in
     let counted = i.looked in
     omega arith
+
+pub returns-in_err-look_next-clause-grows : goal.returns-in_err-look_next-clause-grows
+returns-in_err-look_next-clause-grows c = grows-then c.args.self.now c.loop.self c.look_next.new.self c.loop.invariant.grows c.look_next.ensures.grows

@@ -19,3 +19,6 @@ invariant_of-self-else-not-stands c =
     let there = from-some c.place.result _ c.place.ensures.some (sym c.if-not-stands.ensures) in
     let told = places-again c.reach.new.places.items a.items.items c.args.n (rw (← c.as_slice.ensures.value) c.reach.ensures.tell) (there.0, rw c.self.view_is there.1) in
     rw c.in_ok-push.ensures.items told
+
+pub reach-requires : goal.reach-requires
+reach-requires c = rw c.as_slice.ensures.value c.self.invariant

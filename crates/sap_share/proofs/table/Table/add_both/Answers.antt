@@ -1,9 +1,15 @@
 use Rattle.std.proofs.Common.{◌≡◌, sym, length, ◌∙◌, ap, subst}
 use Rattle.sap_share.specs.Shared.{Shared, node_tree, IsNew}
 use Rattle.sap_share.specs.code.Inside.{trees_in, forms_in, sizes_in}
-use Rattle.sap_share.proofs.Grown.{new_after}
+use Rattle.sap_share.proofs.Grown.{new_after, new_node}
 use Rattle.sap_share.proofs.Both.{pushed_both, seen_both}
 use Rattle.sap_share.proofs.table.Table.add_both.Goals as goal
+
+pub push_both-requires-clause-first : goal.push_both-requires-clause-first
+push_both-requires-clause-first c =
+    let a = c.self.inside in
+    let new = subst (λ (s : Shared). IsNew s.trees c.args.first) (sym c.self.view_is) c.requires.new in
+    new_node a.sig a.nodes (trees_in a.rows.items) (forms_in a.rows.items) (sizes_in a.rows.items) c.self.invariant c.args.first new
 
 pub push_both-requires-clause-second : goal.push_both-requires-clause-second
 push_both-requires-clause-second c =

@@ -17,4 +17,4 @@ held g b xs ss on m h is f e o =
 
 pub invariant_of-self-2 : goal.invariant_of-self-2
 invariant_of-self-2 c =
-    held (record { symbols = c.self.inside.symbols; builtins = c.self.inside.builtins }) c.args.b c.in_ok-added.added c.join.new.symbols c.including-self-inside.result c.self.invariant.0 c.self.invariant.1 (c.in_ok-added.ensures ∙ c.rows_of.ensures) c.in_ok-join.ensures.no_clash c.in_ok-join.ensures.ok c.including-self-inside.ensures
+    held (record { symbols = c.self.inside.symbols; builtins = c.self.inside.builtins }) c.args.b c.in_ok-added.added c.join-joined.new.symbols c.including-self-inside.result c.self.invariant.0 c.self.invariant.1 (c.in_ok-added.ensures ∙ c.rows_of.ensures) c.in_ok-joined.ensures.no_clash c.in_ok-joined.ensures.ok c.including-self-inside.ensures

@@ -4,7 +4,7 @@ ghost use Rattle.std.specs.Option.{option_copied};
 ghost use Rattle.sap_terms.specs.View.{tree};
 ghost use Rattle.sap_terms.specs.Tree.{trees_of};
 ghost use Rattle.sap_terms.specs.Equations.{app0, true_name};
-ghost use Rattle.sap_rewrite.specs.code.Reduce.{args1, args2, args3, under, parts_under, owner_of, first_part, second_part, opened, opened_by_key, verified};
+ghost use Rattle.sap_parts.specs.Parts.{args1, args2, args3, under, parts_under, owner_of, first_part, second_part, opened, opened_by_key, verified};
 
 use sap_terms::{Term, TermList};
 
@@ -62,7 +62,7 @@ fn owner(t: &Term) -> Option<&Term>
 }
 
 // The first of the two terms under a symbol of this name.
-pub(crate) fn first_part<'a>(name: &[u8], ts: &'a TermList) -> Option<&'a Term>
+pub fn first_part<'a>(name: &[u8], ts: &'a TermList) -> Option<&'a Term>
     ensures { option_map tree (option_copied result) ≡ first_part name.now (trees_of ts.now) }
 {
     let (a, _) = parts(name, one(ts)?)?;
@@ -70,7 +70,7 @@ pub(crate) fn first_part<'a>(name: &[u8], ts: &'a TermList) -> Option<&'a Term>
 }
 
 // The second part of a pair.
-pub(crate) fn second_part(ts: &TermList) -> Option<&Term>
+pub fn second_part(ts: &TermList) -> Option<&Term>
     ensures { option_map tree (option_copied result) ≡ second_part (trees_of ts.now) }
 {
     let (_, b) = parts(b"pair", one(ts)?)?;
@@ -78,7 +78,7 @@ pub(crate) fn second_part(ts: &TermList) -> Option<&Term>
 }
 
 // The message that was sealed with the key it is opened with.
-pub(crate) fn opened(ts: &TermList) -> Option<&Term>
+pub fn opened(ts: &TermList) -> Option<&Term>
     ensures { option_map tree (option_copied result) ≡ opened (trees_of ts.now) }
 {
     let (sealed, key) = two(ts)?;
@@ -87,7 +87,7 @@ pub(crate) fn opened(ts: &TermList) -> Option<&Term>
 }
 
 // The message that was sealed with the public key of the key it is opened with.
-pub(crate) fn opened_by_key(ts: &TermList) -> Option<&Term>
+pub fn opened_by_key(ts: &TermList) -> Option<&Term>
     ensures { option_map tree (option_copied result) ≡ opened_by_key (trees_of ts.now) }
 {
     let (sealed, key) = two(ts)?;
@@ -97,7 +97,7 @@ pub(crate) fn opened_by_key(ts: &TermList) -> Option<&Term>
 }
 
 // Whether the signature, which a symbol of this name makes, is one of the message by the key whose public key is given.
-pub(crate) fn verifies(name: &[u8], ts: &TermList) -> Option<()>
+pub fn verifies(name: &[u8], ts: &TermList) -> Option<()>
     ensures { option_map (λ _. app0 true_name) result ≡ verified name.now (trees_of ts.now) }
 {
     let (signed, claimed, public) = three(ts)?;

@@ -2,7 +2,7 @@
 use Rattle.std.proofs.Common.{◌≡◌, List, [], ◌∷◌, length, Some, None, refl, arith}
 use Rattle.std.specs.Prelude.{slice_get}
 use Rattle.sap_terms.specs.Tree.{Tree, trees_of}
-use Rattle.sap_rewrite.specs.code.Reduce.{args1, args2, args3}
+use Rattle.sap_parts.specs.Parts.{args1, args2, args3}
 
 pub args1-got : (ts : List Tree) → length ts ≡ 1 → slice_get ts 0 ≡ args1 (trees_of ts)
 args1-got [] h = refl

@@ -1,7 +1,7 @@
 use Rattle.std.proofs.Common.{sym, ◌∙◌}
 use Rattle.sap_terms.specs.View.{tree}
-use Rattle.sap_rewrite.proofs.Shapes.{args3-got, args3-none}
-use Rattle.sap_rewrite.proofs.shape.three.Goals as goal
+use Rattle.sap_parts.proofs.Lists.{args3-got, args3-none}
+use Rattle.sap_parts.proofs.parts.three.Goals as goal
 
 pub returns-else-len-eq3 : goal.returns-else-len-eq3
 returns-else-len-eq3 c = args3-none c.args.ts.now (λ h. c.if-len-eq3.false (c.len.ensures ∙ h))

@@ -1,7 +1,7 @@
 use Rattle.std.proofs.Common.{sym, ◌∙◌}
 use Rattle.sap_terms.specs.View.{tree}
-use Rattle.sap_rewrite.proofs.Shapes.{args2-got, args2-none}
-use Rattle.sap_rewrite.proofs.shape.two.Goals as goal
+use Rattle.sap_parts.proofs.Lists.{args2-got, args2-none}
+use Rattle.sap_parts.proofs.parts.two.Goals as goal
 
 pub returns-else-len-eq2 : goal.returns-else-len-eq2
 returns-else-len-eq2 c = args2-none c.args.ts.now (λ h. c.if-len-eq2.false (c.len.ensures ∙ h))

@@ -1,6 +1,6 @@
 use Rattle.std.proofs.Common.{sym, ◌∙◌}
-use Rattle.sap_rewrite.proofs.Shapes.{args1-got, args1-none}
-use Rattle.sap_rewrite.proofs.shape.one.Goals as goal
+use Rattle.sap_parts.proofs.Lists.{args1-got, args1-none}
+use Rattle.sap_parts.proofs.parts.one.Goals as goal
 
 pub returns-else-len-eq1 : goal.returns-else-len-eq1
 returns-else-len-eq1 c = args1-none c.args.ts.now (λ h. c.if-len-eq1.false (c.len.ensures ∙ h))
