@@ -12,8 +12,8 @@ use Rattle.sap_terms.specs.NameMap.{Puts, value_at}
 use Rattle.sap_terms.specs.View.{tree}
 use Rattle.sap_deduce.specs.declared.entry.Entry.{Entry}
 use Rattle.sap_deduce.specs.declared.origin.Origin.TheVariants.{Apply}
-use Rattle.sap_deduce.specs.declared.way.Way.{Way}
-use Rattle.sap_deduce.specs.declared.way.Way.TheVariants.{Given, Applied}
+use Rattle.sap_deduce.specs.declared.stored.StoredOrigin.{StoredOrigin}
+use Rattle.sap_deduce.specs.declared.stored.StoredOrigin.TheVariants.{Given, Applied}
 use Rattle.sap_deduce.specs.code.Lines.{Line, origin_of, IsWithin, lines_of, AreWithin, ArePlaces, IsMore}
 
 pub length-lines_of : (symbols : List (List ℕ)) (used : List ℕ) (es : List Entry) → length (lines_of symbols used es) ≡ length es
@@ -34,7 +34,7 @@ pub more-none : {X : Type 0} (xs : List X) → IsMore xs xs
 more-none xs = record { added = []; is = sym (append-nil xs) }
 
 -- an origin stays what it is, and within
-origin-more : (symbols more : List (List ℕ)) (used also : List ℕ) (w : Way) → IsWithin (length symbols) (length used) w → origin_of (symbols ++ more) (used ++ also) w ≡ origin_of symbols used w
+origin-more : (symbols more : List (List ℕ)) (used also : List ℕ) (w : StoredOrigin) → IsWithin (length symbols) (length used) w → origin_of (symbols ++ more) (used ++ also) w ≡ origin_of symbols used w
 origin-more symbols more used also (Given g) h = refl
 origin-more symbols more used also (Applied s k n) h =
     let name : slice_index_or (symbols ++ more) s [] ≡ slice_index_or symbols s [] = get_or_append_left symbols more [] s h.0 in
@@ -46,7 +46,7 @@ origin-more symbols more used also (Applied s k n) h =
     drop_rest : (k : ℕ) (xs : List ℕ) → k ≤ length xs → length (drop k xs) + k ≡ length xs
     drop_rest k xs h = let l = length-drop k xs in omega (arith, l, h)
 
-within-more : (m n p q : ℕ) (w : Way) → m ≤ p → n ≤ q → IsWithin m n w → IsWithin p q w
+within-more : (m n p q : ℕ) (w : StoredOrigin) → m ≤ p → n ≤ q → IsWithin m n w → IsWithin p q w
 within-more m n p q (Given g) a b h = tt
 within-more m n p q (Applied s k c) a b h = (omega (arith, a, h.0), omega (arith, b, h.1))
 

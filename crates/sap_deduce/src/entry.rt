@@ -1,5 +1,5 @@
 //! An entry of what the adversary knows.
-use crate::way::Way;
+use crate::stored::StoredOrigin;
 use sap_terms::Term;
 
 // A term, its number in the table, and how it came to be known.
@@ -7,5 +7,5 @@ use sap_terms::Term;
 pub(crate) struct Entry {
     pub(crate) number: u64,
     pub(crate) term: Term,
-    pub(crate) way: Way,
+    pub(crate) way: StoredOrigin,
 }

@@ -18,7 +18,7 @@ ghost use Rattle.sap_deduce.specs.declared.origin.Origin.TheVariants.{Name as Na
 
 use crate::Deny;
 use crate::lines::Lines;
-use crate::way::Given;
+use crate::stored::Given;
 use sap_rewrite::{Cut, forms_are_messages};
 use sap_share::{Node, Table};
 use sap_terms::{

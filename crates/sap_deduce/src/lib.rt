@@ -7,7 +7,7 @@ mod knowledge;
 mod laws;
 mod lines;
 mod origin;
-mod way;
+mod stored;
 
 pub use deny::Deny;
 pub use knowledge::Knowledge;

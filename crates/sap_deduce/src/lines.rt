@@ -6,7 +6,7 @@ ghost use Rattle.sap_deduce.specs.code.Lines.{Line, IsMore, ArePlaces, origin_gi
 ghost use Rattle.sap_deduce.specs.declared.origin.Origin.TheVariants.{Apply as ApplyOrigin};
 
 use crate::entry::Entry;
-use crate::way::{Given, Way};
+use crate::stored::{Given, StoredOrigin};
 use sap_terms::{Copied, Items, Mem, Name, NameList, NameMap, Numbers, Term};
 use std::alloc::Global;
 use std::marker::Model;
@@ -125,7 +125,7 @@ impl Lines {
         self.entries.push(Entry {
             number,
             term,
-            way: Way::Given(given),
+            way: StoredOrigin::Given(given),
         })?;
         Ok(())
     }
@@ -160,7 +160,7 @@ impl Lines {
         self.entries.push(Entry {
             number,
             term,
-            way: Way::Applied {
+            way: StoredOrigin::Applied {
                 symbol,
                 from,
                 count,

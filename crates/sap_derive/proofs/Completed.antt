@@ -18,8 +18,8 @@ use Rattle.sap_derive.specs.code.Saturated.{HaveParts}
 use Rattle.sap_derive.specs.code.States.{IsStateOf}
 use Rattle.sap_derive.specs.declared.closure.Closure.{Closure}
 use Rattle.sap_derive.specs.declared.openers.Openers.{Openers}
-use Rattle.sap_derive.specs.declared.way.Way.{Way}
-use Rattle.sap_derive.specs.declared.way.Way.TheVariants.{Given, By}
+use Rattle.sap_derive.specs.declared.grounds.Grounds.{Grounds}
+use Rattle.sap_derive.specs.declared.grounds.Grounds.TheVariants.{Given, By}
 use Rattle.sap_derive.proofs.Clausal.{closed-saturated}
 use Rattle.sap_derive.proofs.Gets.{all-got}
 use Rattle.sap_derive.proofs.Made.{deduced-known}
@@ -43,7 +43,7 @@ module _ (s : Shared) (entries terms : List ℕ) (brought given : ℕ) (closure 
     within : l.0 < length closure.ways.items
     within = (let b = slice_get_within closure.known l.0 n l.1 in let c = state.closed.sound.count in omega arith)
 
-    at : (w : Way) × (slice_get closure.ways.items l.0 ≡ Some w) → n < length s.trees
+    at : (w : Grounds) × (slice_get closure.ways.items l.0 ≡ Some w) → n < length s.trees
     at (Given, e) =
         let there = state.given_are n (record { rank = l.0; is = l.1; way = e }) in
         let term = state.entries_are there.0 n there.1 in

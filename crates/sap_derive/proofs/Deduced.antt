@@ -17,8 +17,8 @@ use Rattle.sap_derive.specs.code.States.{IsStateOf}
 use Rattle.sap_derive.specs.declared.closure.Closure.{Closure}
 use Rattle.sap_derive.specs.declared.line.Line.{Line}
 use Rattle.sap_derive.specs.declared.openers.Openers.{Openers}
-use Rattle.sap_derive.specs.declared.way.Way.{Way}
-use Rattle.sap_derive.specs.declared.way.Way.TheVariants.{Given, By}
+use Rattle.sap_derive.specs.declared.grounds.Grounds.{Grounds}
+use Rattle.sap_derive.specs.declared.grounds.Grounds.TheVariants.{Given, By}
 use Rattle.sap_derive.proofs.Completed.{got-at, all-trees}
 use Rattle.sap_derive.proofs.Gets.{same-or_not}
 use Rattle.sap_derive.proofs.Parts.{tree-got}
@@ -54,7 +54,7 @@ module _ (s : Shared) (entries terms : List ℕ) (brought done : ℕ) (closure :
     within : k < length closure.ways.items
     within = (let b = slice_get_within closure.known k n e in let c = state.closed.sound.count in omega arith)
 
-    at : (w : Way) × (slice_get closure.ways.items k ≡ Some w) → IsDerived s.sig [] frame (front k) (tree_at s.trees n)
+    at : (w : Grounds) × (slice_get closure.ways.items k ≡ Some w) → IsDerived s.sig [] frame (front k) (tree_at s.trees n)
     at (Given, w) =
         let there = state.given_are n (record { rank = k; is = e; way = w }) in
         given (contains_got frame (tree_at s.trees n) there.0 (tree-got s.trees entries there.0 n there.1))

@@ -17,8 +17,8 @@ use Rattle.sap_derive.specs.code.States.{IsStateOf}
 use Rattle.sap_derive.specs.declared.clause.Clause.{Clause}
 use Rattle.sap_derive.specs.declared.closure.Closure.{Closure}
 use Rattle.sap_derive.specs.declared.openers.Openers.{Openers}
-use Rattle.sap_derive.specs.declared.way.Way.{Way}
-use Rattle.sap_derive.specs.declared.way.Way.TheVariants.{Given, By}
+use Rattle.sap_derive.specs.declared.grounds.Grounds.{Grounds}
+use Rattle.sap_derive.specs.declared.grounds.Grounds.TheVariants.{Given, By}
 use Rattle.sap_derive.specs.Near.{IsAmong, first_one, other, IsSubterm, whole, within, IsNear}
 use Rattle.sap_derive.proofs.Completed.{got-at, all-trees, known-below}
 use Rattle.sap_derive.proofs.Nearness.{part-stands, near-parts, near-goal}
@@ -113,7 +113,7 @@ module _ (s : Shared) (entries terms : List ℕ) (brought given : ℕ) (closure 
     there : rank < length closure.ways.items
     there = (let b = slice_get_within closure.known rank n e in let c = state.closed.sound.count in omega arith)
 
-    at : ((j m : ℕ) → j < rank → slice_get closure.known j ≡ Some m → InEntry (term m) ⊎ IsMadeAt j m) → (w : Way) × (slice_get closure.ways.items rank ≡ Some w) → InEntry (term n) ⊎ IsMadeAt rank n
+    at : ((j m : ℕ) → j < rank → slice_get closure.known j ≡ Some m → InEntry (term m) ⊎ IsMadeAt j m) → (w : Grounds) × (slice_get closure.ways.items rank ≡ Some w) → InEntry (term n) ⊎ IsMadeAt rank n
     at how_before (Given, w) =
         let entry = state.given_are n (record { rank = rank; is = e; way = w }) in
         inl (term n, contains_got frame (term n) entry.0 (tree-got s.trees entries entry.0 n entry.1), whole)

@@ -8,7 +8,7 @@ use Rattle.sap_derive.specs.code.Closed.{IsWaitAt, KeepsWaits, IsSound, IsUsed, 
 use Rattle.sap_derive.specs.code.Listed.{IsListed}
 use Rattle.sap_derive.specs.declared.clause.Clause.{Clause}
 use Rattle.sap_derive.specs.declared.closure.Closure.{Closure}
-use Rattle.sap_derive.specs.declared.way.Wait.{Wait}
+use Rattle.sap_derive.specs.declared.grounds.Wait.{Wait}
 use Rattle.sap_derive.proofs.Gets.{same-or_not}
 
 -- the clause is settled

@@ -8,9 +8,9 @@ use Rattle.sap_derive.specs.code.Lines.{premises_of}
 use Rattle.sap_derive.specs.code.Closed.{IsWaitAt, IsWait, IsStep, IsSoundOf, KeepsKnown, Learns, nothing, one}
 use Rattle.sap_derive.specs.code.Listed.{IsListed, AreListed, StandOnce}
 use Rattle.sap_derive.specs.declared.clause.Clause.{Clause}
-use Rattle.sap_derive.specs.declared.way.Wait.{Wait}
-use Rattle.sap_derive.specs.declared.way.Way.{Way}
-use Rattle.sap_derive.specs.declared.way.Way.TheVariants.{Given, By}
+use Rattle.sap_derive.specs.declared.grounds.Wait.{Wait}
+use Rattle.sap_derive.specs.declared.grounds.Grounds.{Grounds}
+use Rattle.sap_derive.specs.declared.grounds.Grounds.TheVariants.{Given, By}
 use Rattle.sap_derive.proofs.Gets.{get-more, get-last, get-last_cases}
 
 -- what stands in a list stands there where more is put last
@@ -20,7 +20,7 @@ listed-more known n m l = (l.0, get-more known (n ∷ []) l.0 m l.1)
 abbrev KeepsClauses : List Clause → List Clause → Type 0
 KeepsClauses old new = (c : ℕ) (k : Clause) → slice_get old c ≡ Some k → slice_get new c ≡ Some k
 
-module _ (cs : List Clause) (known : List ℕ) (ways : List Way) (waiting : List (Vec Wait Global)) (p d l : ℕ) (sound : IsSoundOf cs known ways waiting p d l) where
+module _ (cs : List Clause) (known : List ℕ) (ways : List Grounds) (waiting : List (Vec Wait Global)) (p d l : ℕ) (sound : IsSoundOf cs known ways waiting p d l) where
   pub sound-more_clauses : (ds : List Clause) → KeepsClauses cs ds → length cs ≤ length ds → IsSoundOf ds known ways waiting p d l
   sound-more_clauses ds kept more = record {
     count = sound.count;
@@ -48,10 +48,10 @@ module _ (cs : List Clause) (known : List ℕ) (ways : List Way) (waiting : List
     at m k w (inr e) = subst (λ (i : ℕ). IsWait cs known i w) (sym e.0) (subst (λ (x : Wait). IsWait cs known n x) (sym e.1) is)
 
   -- how a number became known by a way
-  abbrev Comes : ℕ → Way → Type 0
+  abbrev Comes : ℕ → Grounds → Type 0
   Comes n way = (c : ℕ) → way ≡ By c → (k : Clause) × (slice_get cs c ≡ Some k) × (k.gives ≡ n) × AreListed known (premises_of k.line)
 
-  sound-one : (n : ℕ) (way : Way) → ¬ IsListed known n → Comes n way → IsSoundOf cs (known ++ n ∷ []) (ways ++ way ∷ []) waiting p d l
+  sound-one : (n : ℕ) (way : Grounds) → ¬ IsListed known n → Comes n way → IsSoundOf cs (known ++ n ∷ []) (ways ++ way ∷ []) waiting p d l
   sound-one n way new comes = record {
     count = (let a = length_push ways way in let b = length_push known n in let h = sound.count in omega arith);
     once = once;
@@ -90,30 +90,30 @@ module _ (cs : List Clause) (known : List ℕ) (ways : List Way) (waiting : List
             before = λ i m q. let b = k.3 i m q in let w = slice_get_within known b.0 m b.1 in (b.0, omega arith, get-more known (n ∷ []) b.0 m b.1);
           }
 
-  pub sound-learned : (new_known : List ℕ) (new_ways : List Way) (n : ℕ) (way : Way) → ¬ IsListed known n → Comes n way → Learns known ways n way new_known new_ways
+  pub sound-learned : (new_known : List ℕ) (new_ways : List Grounds) (n : ℕ) (way : Grounds) → ¬ IsListed known n → Comes n way → Learns known ways n way new_known new_ways
       → IsSoundOf cs new_known new_ways waiting p d l
   sound-learned _ _ n way new comes (nothing e f) = rw (e, f) sound
   sound-learned _ _ n way new comes (one e f) = rw (e, f) (sound-one n way new comes)
 
 -- what is learned stays, and ranks behind
-pub learned-kept : (known new_known : List ℕ) (ways new_ways : List Way) (n : ℕ) (way : Way) → Learns known ways n way new_known new_ways → KeepsKnown known new_known
+pub learned-kept : (known new_known : List ℕ) (ways new_ways : List Grounds) (n : ℕ) (way : Grounds) → Learns known ways n way new_known new_ways → KeepsKnown known new_known
 learned-kept known _ ways _ n way (nothing e f) k m h = rw e h
 learned-kept known _ ways _ n way (one e f) k m h = rw e (get-more known (n ∷ []) k m h)
 
-pub learned-later : (known new_known : List ℕ) (ways new_ways : List Way) (n : ℕ) (way : Way) → Learns known ways n way new_known new_ways
+pub learned-later : (known new_known : List ℕ) (ways new_ways : List Grounds) (n : ℕ) (way : Grounds) → Learns known ways n way new_known new_ways
     → (k m : ℕ) → slice_get new_known k ≡ Some m → (slice_get known k ≡ Some m) ⊎ (length known ≤ k)
 learned-later known _ ways _ n way (nothing e f) k m h = inl (subst (λ (ks : List ℕ). slice_get ks k ≡ Some m) e h)
 learned-later known _ ways _ n way (one e f) k m h =
     elim (get-last_cases known n k m (subst (λ (ks : List ℕ). slice_get ks k ≡ Some m) e h)) [ inl x ↦ inl x | inr x ↦ inr (omega (arith, x.0)) ]
 
 -- what was given after, was given before, or is what was learned so
-pub learned-given : (known new_known : List ℕ) (ways new_ways : List Way) (n : ℕ) (way : Way) → length ways ≡ length known → Learns known ways n way new_known new_ways
+pub learned-given : (known new_known : List ℕ) (ways new_ways : List Grounds) (n : ℕ) (way : Grounds) → length ways ≡ length known → Learns known ways n way new_known new_ways
     → (rank m : ℕ) → slice_get new_known rank ≡ Some m → slice_get new_ways rank ≡ Some Given
     → ((slice_get known rank ≡ Some m) × (slice_get ways rank ≡ Some Given)) ⊎ ((m ≡ n) × (way ≡ Given))
 learned-given known _ ways _ n way count (nothing e f) rank m h g =
-    inl (subst (λ (ks : List ℕ). slice_get ks rank ≡ Some m) e h, subst (λ (ws : List Way). slice_get ws rank ≡ Some Given) f g)
+    inl (subst (λ (ks : List ℕ). slice_get ks rank ≡ Some m) e h, subst (λ (ws : List Grounds). slice_get ws rank ≡ Some Given) f g)
 learned-given known _ ways _ n way count (one e f) rank m h g =
-    go (get-last_cases known n rank m (subst (λ (ks : List ℕ). slice_get ks rank ≡ Some m) e h)) (get-last_cases ways way rank Given (subst (λ (ws : List Way). slice_get ws rank ≡ Some Given) f g)) where
+    go (get-last_cases known n rank m (subst (λ (ks : List ℕ). slice_get ks rank ≡ Some m) e h)) (get-last_cases ways way rank Given (subst (λ (ws : List Grounds). slice_get ws rank ≡ Some Given) f g)) where
       go : (slice_get known rank ≡ Some m) ⊎ ((rank ≡ length known) × (m ≡ n)) → (slice_get ways rank ≡ Some Given) ⊎ ((rank ≡ length ways) × (Given ≡ way))
           → ((slice_get known rank ≡ Some m) × (slice_get ways rank ≡ Some Given)) ⊎ ((m ≡ n) × (way ≡ Given))
       go (inl x) (inl y) = inl (x, y)

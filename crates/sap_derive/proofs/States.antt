@@ -21,8 +21,8 @@ use Rattle.sap_derive.specs.declared.clause.Clause.{Clause}
 use Rattle.sap_derive.specs.declared.closure.Closure.{Closure}
 use Rattle.sap_derive.specs.declared.line.Line.{Line}
 use Rattle.sap_derive.specs.declared.openers.Openers.{Openers}
-use Rattle.sap_derive.specs.declared.way.Way.{Way}
-use Rattle.sap_derive.specs.declared.way.Way.TheVariants.{Given}
+use Rattle.sap_derive.specs.declared.grounds.Grounds.{Grounds}
+use Rattle.sap_derive.specs.declared.grounds.Grounds.TheVariants.{Given}
 use Rattle.std.specs.Prelude.{Vec}
 use Rattle.std.specs.declared.alloc.Global.{Global}
 use Rattle.std.proofs.lemmas.List.{append_assoc}
@@ -217,7 +217,7 @@ module _ (s : Shared) (entries terms : List ℕ) (brought given : ℕ) (closure 
       (λ n x. state.given_are n (record {
         rank = x.rank;
         is = subst (λ (ks : List ℕ). slice_get ks x.rank ≡ Some n) adds.known x.is;
-        way = subst (λ (ws : List Way). slice_get ws x.rank ≡ Some Given) (ap (λ (v : Vec Way Global). v.items) adds.ways) x.way;
+        way = subst (λ (ws : List Grounds). slice_get ws x.rank ≡ Some Given) (ap (λ (v : Vec Grounds Global). v.items) adds.ways) x.way;
       }))
 
   -- more has become known

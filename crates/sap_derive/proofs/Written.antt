@@ -11,7 +11,7 @@ use Rattle.sap_derive.specs.code.Needed.{AreNeeded, IsCovered, IsLineOver, no_li
 use Rattle.sap_derive.specs.declared.clause.Clause.{Clause}
 use Rattle.sap_derive.specs.declared.closure.Closure.{Closure}
 use Rattle.sap_derive.specs.declared.line.Line.{Line}
-use Rattle.sap_derive.specs.declared.way.Way.TheVariants.{By}
+use Rattle.sap_derive.specs.declared.grounds.Grounds.TheVariants.{By}
 use Rattle.sap_derive.proofs.Gets.{same-or_not, append-none, get-more, get-last}
 
 module _ (s : Closure) (entries : List ℕ) (goal : ℕ) (ranks : List ℕ) where

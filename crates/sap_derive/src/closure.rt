@@ -4,12 +4,12 @@ ghost use Rattle.std.specs.Vec.{vec_len, vec_capacity};
 ghost use Rattle.sap_derive.specs.code.Lines.{premises_of};
 ghost use Rattle.sap_derive.specs.code.Listed.{IsListed, AreListed, AreListedBefore};
 ghost use Rattle.sap_derive.specs.code.Closed.{IsFirstUnlisted, IsWaitAt, IsWait, KeepsWaits, IsParked, IsSound, IsUsed, IsWaiting, IsClosure, IsGiven, KeepsKnown, Learns, Grows, Advances, IsClosedUnder};
-ghost use Rattle.sap_derive.specs.declared.way.Wait.{Wait as TheWait};
+ghost use Rattle.sap_derive.specs.declared.grounds.Wait.{Wait as TheWait};
 ghost use Rattle.sap_derive.specs.declared.clause.Clause.{Clause as TheClause};
 
 use crate::clause::Clause;
 use crate::listing::Listing;
-use crate::way::{Wait, Way};
+use crate::grounds::{Wait, Grounds};
 use sap_terms::{Items, Mem};
 use std::alloc::Global;
 
@@ -19,7 +19,7 @@ use std::alloc::Global;
 pub(crate) struct Closure {
     pub(crate) clauses: Items<Clause>,
     pub(crate) known: Listing,
-    pub(crate) ways: Vec<Way>,
+    pub(crate) ways: Vec<Grounds>,
     waiting: Vec<Vec<Wait>>,
     // how many clauses have been looked at for the first time
     placed: u64,
@@ -86,7 +86,7 @@ fn wait_at(waiting: &[Vec<Wait>], n: u64, k: u64) -> Wait
 }
 
 // Puts a way last. There is room.
-fn put_way(ways: &mut Vec<Way>, way: Way)
+fn put_way(ways: &mut Vec<Grounds>, way: Grounds)
     requires { vec_len ways.old < vec_capacity ways.old }
     ensures { ways.new.items ≡ ways.old.items ++ way ∷ [] }
 {
@@ -97,7 +97,7 @@ fn put_way(ways: &mut Vec<Way>, way: Way)
 }
 
 // Puts a number last among those that are known, with the way in which it became so.
-fn learn(known: &mut Listing, ways: &mut Vec<Way>, n: u64, way: Way) -> Result<(), Mem>
+fn learn(known: &mut Listing, ways: &mut Vec<Grounds>, n: u64, way: Grounds) -> Result<(), Mem>
     ensures learns { Learns known.old ways.old.items n way known.new ways.new.items }
     ensures ok { OnOk result (IsListed known.new n) }
 {
@@ -150,7 +150,7 @@ impl Closure {
         if self.known.place(n).is_some() {
             return Ok(());
         }
-        learn(&mut self.known, &mut self.ways, n, Way::Given)
+        learn(&mut self.known, &mut self.ways, n, Grounds::Given)
     }
 
     // Makes known what a clause gives, all of whose numbers are known.
@@ -166,7 +166,7 @@ impl Closure {
         if self.known.place(gives).is_some() {
             return Ok(());
         }
-        learn(&mut self.known, &mut self.ways, gives, Way::By(clause))
+        learn(&mut self.known, &mut self.ways, gives, Grounds::By(clause))
     }
 
     // Lets a clause wait at the first of its numbers that isn't known.

@@ -15,7 +15,7 @@ mod openers;
 mod search;
 mod shape;
 mod state;
-mod way;
+mod grounds;
 mod write;
 
 pub use by_hand::lines_by_hand;

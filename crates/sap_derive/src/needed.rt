@@ -6,7 +6,7 @@ ghost use Rattle.sap_derive.specs.code.Needed.{StandsOn, IsNewRank, IsNewRankOf,
 
 use crate::closure::Closure;
 use crate::listing::{Listing, list};
-use crate::way::Way;
+use crate::grounds::Grounds;
 use sap_terms::Mem;
 
 // Puts the rank of a number last that is no entry, unless it is there.
@@ -63,8 +63,8 @@ fn need_below(
     ensures ok { OnOk result ((j n : ℕ) → StandsOn closure.now entries.now rank j → slice_get closure.now.known j ≡ Some n → IsCovered closure.now.known entries.now ranks.new n) }
 {
     match closure.ways[rank as usize] {
-        Way::Given => Ok(()),
-        Way::By(clause) => {
+        Grounds::Given => Ok(()),
+        Grounds::By(clause) => {
             need_all(
                 &closure.known,
                 entries,

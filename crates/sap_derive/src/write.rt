@@ -6,14 +6,14 @@ ghost use Rattle.sap_derive.specs.code.Listed.{IsListed, AreListed};
 ghost use Rattle.sap_derive.specs.code.Needed.{ArePlaces, IsLineOver, IsWritten, Writes};
 ghost use Rattle.sap_derive.specs.declared.clause.Clause.{Clause as TheClause};
 ghost use Rattle.sap_derive.specs.declared.line.Line.{Line as TheLine};
-ghost use Rattle.sap_derive.specs.declared.way.Way.TheVariants.{Given as IsGivenWay, By as IsByWay};
+ghost use Rattle.sap_derive.specs.declared.grounds.Grounds.TheVariants.{Given as IsGivenWay, By as IsByWay};
 
 use crate::clause::Clause;
 use crate::closure::Closure;
 use crate::line::{Line, LineList};
 use crate::listing::Listing;
 use crate::needed::need;
-use crate::way::Way;
+use crate::grounds::Grounds;
 use sap_terms::{Copied, Mem, Numbers};
 use std::alloc::Global;
 
@@ -95,8 +95,8 @@ fn write_next(
         return Ok(());
     }
     match closure.ways[rank as usize] {
-        Way::Given => Ok(()),
-        Way::By(clause) => write_line(alloc, closure.clauses.at(clause), items, lines),
+        Grounds::Given => Ok(()),
+        Grounds::By(clause) => write_line(alloc, closure.clauses.at(clause), items, lines),
     }
 }
 

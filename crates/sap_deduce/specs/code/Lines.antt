@@ -6,10 +6,10 @@ use Rattle.sap_terms.specs.View.{tree}
 use Rattle.sap_deduce.specs.declared.entry.Entry.{Entry}
 use Rattle.sap_deduce.specs.declared.origin.Origin.{Origin}
 use Rattle.sap_deduce.specs.declared.origin.Origin.TheVariants.{Name as NameOrigin, Public as PublicOrigin, Output as OutputOrigin, Apply as ApplyOrigin}
-use Rattle.sap_deduce.specs.declared.way.Given.{Given as TheGiven}
-use Rattle.sap_deduce.specs.declared.way.Given.TheVariants.{Name, Public, Output}
-use Rattle.sap_deduce.specs.declared.way.Way.{Way}
-use Rattle.sap_deduce.specs.declared.way.Way.TheVariants.{Given, Applied}
+use Rattle.sap_deduce.specs.declared.stored.Given.{Given as TheGiven}
+use Rattle.sap_deduce.specs.declared.stored.Given.TheVariants.{Name, Public, Output}
+use Rattle.sap_deduce.specs.declared.stored.StoredOrigin.{StoredOrigin}
+use Rattle.sap_deduce.specs.declared.stored.StoredOrigin.TheVariants.{Given, Applied}
 
 -- a term with its number, and how it came to be known
 pub record Line : Type 0 where
@@ -24,12 +24,12 @@ origin_given Public = PublicOrigin
 origin_given Output = OutputOrigin
 
 -- the origin that is stored
-abbrev pub origin_of : List (List ℕ) → List ℕ → Way → Origin
+abbrev pub origin_of : List (List ℕ) → List ℕ → StoredOrigin → Origin
 origin_of symbols used (Given g) = origin_given g
 origin_of symbols used (Applied s k n) = ApplyOrigin (slice_index_or symbols s []) (take n (drop k used))
 
 -- what it stands on is there
-abbrev pub IsWithin : ℕ → ℕ → Way → Type 0
+abbrev pub IsWithin : ℕ → ℕ → StoredOrigin → Type 0
 IsWithin symbols used (Given g) = ⊤
 IsWithin symbols used (Applied s k n) = (s < symbols) × (k + n ≤ used)
 

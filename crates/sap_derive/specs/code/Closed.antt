@@ -5,9 +5,9 @@ use Rattle.sap_derive.specs.code.Lines.{premises_of}
 use Rattle.sap_derive.specs.code.Listed.{IsListed, AreListed, AreListedBefore, StandOnce}
 use Rattle.sap_derive.specs.declared.clause.Clause.{Clause}
 use Rattle.sap_derive.specs.declared.closure.Closure.{Closure}
-use Rattle.sap_derive.specs.declared.way.Wait.{Wait}
-use Rattle.sap_derive.specs.declared.way.Way.{Way}
-use Rattle.sap_derive.specs.declared.way.Way.TheVariants.{Given, By}
+use Rattle.sap_derive.specs.declared.grounds.Wait.{Wait}
+use Rattle.sap_derive.specs.declared.grounds.Grounds.{Grounds}
+use Rattle.sap_derive.specs.declared.grounds.Grounds.TheVariants.{Given, By}
 
 -- what a clause gives is in the list, where all that it stands on is
 abbrev pub IsClosedUnder : List Clause → List ℕ → Type 0
@@ -49,7 +49,7 @@ pub record IsStep (clauses : List Clause) (known : List ℕ) (rank c : ℕ) : Ty
   pub before : (k n : ℕ) → slice_get (premises_of clause.line) k ≡ Some n → (j : ℕ) × (j < rank) × (slice_get known j ≡ Some n)
 
 -- what is known is known once, and in some way; and each wait is one
-pub record IsSoundOf (clauses : List Clause) (known : List ℕ) (ways : List Way) (waiting : List (Vec Wait Global)) (placed done looked : ℕ) : Type 0 where
+pub record IsSoundOf (clauses : List Clause) (known : List ℕ) (ways : List Grounds) (waiting : List (Vec Wait Global)) (placed done looked : ℕ) : Type 0 where
   pub count : length ways ≡ length known
   pub once : StandOnce known
   pub steps : (rank c : ℕ) → slice_get ways rank ≡ Some (By c) → IsStep clauses known rank c
@@ -101,7 +101,7 @@ pub record IsGiven (s : Closure) (n : ℕ) : Type 0 where
   pub way : slice_get s.ways.items rank ≡ Some Given
 
 -- nothing was learned, or the number, in this way
-pub data Learns (known : List ℕ) (ways : List Way) (n : ℕ) (way : Way) (new_known : List ℕ) (new_ways : List Way) : Type 0 where
+pub data Learns (known : List ℕ) (ways : List Grounds) (n : ℕ) (way : Grounds) (new_known : List ℕ) (new_ways : List Grounds) : Type 0 where
   nothing : new_known ≡ known → new_ways ≡ ways → Learns known ways n way new_known new_ways
   one : new_known ≡ known ++ n ∷ [] → new_ways ≡ ways ++ way ∷ [] → Learns known ways n way new_known new_ways
 

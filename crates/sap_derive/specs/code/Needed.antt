@@ -6,7 +6,7 @@ use Rattle.sap_derive.specs.declared.clause.Clause.{Clause}
 use Rattle.sap_derive.specs.declared.closure.Closure.{Closure}
 use Rattle.sap_derive.specs.declared.line.Line.{Line}
 use Rattle.sap_derive.specs.declared.line.Line.TheVariants.{Public, Apply}
-use Rattle.sap_derive.specs.declared.way.Way.TheVariants.{By}
+use Rattle.sap_derive.specs.declared.grounds.Grounds.TheVariants.{By}
 
 -- what is known at this rank is no entry, and was given by the clause
 pub record IsBy (s : Closure) (entries : List ℕ) (rank : ℕ) (clause : Clause) : Type 0 where

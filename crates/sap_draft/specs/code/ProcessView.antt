@@ -2,8 +2,8 @@
 use Rattle.sap_terms.specs.Tree.{Tree}
 use Rattle.sap_terms.specs.View.{tree}
 use Rattle.sap_process.specs.Action.{Action, out, send, input, receive, delete, lock, unlock}
-use Rattle.sap_draft.specs.declared.process.actions.Way.{Way}
-use Rattle.sap_draft.specs.declared.process.actions.Way.TheVariants.{Out, In}
+use Rattle.sap_draft.specs.declared.process.actions.Direction.{Direction}
+use Rattle.sap_draft.specs.declared.process.actions.Direction.TheVariants.{Out, In}
 use Rattle.sap_draft.specs.declared.process.actions.Deed.{Deed}
 use Rattle.sap_draft.specs.declared.process.actions.Deed.TheVariants.{Delete, Lock, Unlock}
 use Rattle.sap_draft.specs.declared.process.build.Branching.{Branching}
@@ -17,11 +17,11 @@ abbrev pub levelled : Measured → Levelled
 levelled m = (located m.source.value, m.levels)
 
 -- what is done with a message that goes this way
-abbrev pub to_adversary : Way → Tree → Action
+abbrev pub to_adversary : Direction → Tree → Action
 to_adversary Out = out
 to_adversary In = input
 
-abbrev pub on_channel : Way → Tree → Tree → Action
+abbrev pub on_channel : Direction → Tree → Tree → Action
 on_channel Out = send
 on_channel In = receive
 

@@ -17,7 +17,7 @@ use std::alloc::Global;
 
 /// Which way a message goes.
 #[derive(Clone, Copy)]
-enum Way {
+enum Direction {
     Out,
     In,
 }
@@ -30,21 +30,21 @@ enum Deed {
     Unlock,
 }
 
-fn alone(alloc: Global, way: Way, message: Term) -> Result<Box<Doing>, Mem>
+fn alone(alloc: Global, way: Direction, message: Term) -> Result<Box<Doing>, Mem>
     ensures { IfOk result (λ d. doing d.value ≡ to_adversary way (tree message)) }
 {
     match way {
-        Way::Out => boxed(alloc, Doing::Out(message)),
-        Way::In => boxed(alloc, Doing::In(message)),
+        Direction::Out => boxed(alloc, Doing::Out(message)),
+        Direction::In => boxed(alloc, Doing::In(message)),
     }
 }
 
-fn on_channel(alloc: Global, way: Way, channel: Term, message: Term) -> Result<Box<Doing>, Mem>
+fn on_channel(alloc: Global, way: Direction, channel: Term, message: Term) -> Result<Box<Doing>, Mem>
     ensures { IfOk result (λ d. doing d.value ≡ on_channel way (tree channel) (tree message)) }
 {
     match way {
-        Way::Out => boxed(alloc, Doing::Send(channel, message)),
-        Way::In => boxed(alloc, Doing::Recv(channel, message)),
+        Direction::Out => boxed(alloc, Doing::Send(channel, message)),
+        Direction::In => boxed(alloc, Doing::Recv(channel, message)),
     }
 }
 
@@ -63,7 +63,7 @@ fn read_message<'a>(
     alloc: Global,
     sig: &Signature,
     bytes: &[u8],
-    way: Way,
+    way: Direction,
     channel: Term,
     tokens: &'a [Token],
 ) -> Result<Option<(Box<Doing>, &'a [Token])>, Mem>
@@ -100,7 +100,7 @@ fn read_channel<'a>(
     alloc: Global,
     sig: &Signature,
     bytes: &[u8],
-    way: Way,
+    way: Direction,
     tokens: &'a [Token],
 ) -> Result<Option<(Box<Doing>, &'a [Token])>, Mem>
     ensures { Gives bytes.now (λ d. doing d.value) result (channel sig.now FILE_LIMITS (to_adversary way)
@@ -361,9 +361,9 @@ pub fn read_action<'a>(
     if starts(bytes, tokens, "new") {
         read_bound(alloc, bytes, next)
     } else if starts(bytes, tokens, "out") {
-        read_channel(alloc, sig, bytes, Way::Out, next)
+        read_channel(alloc, sig, bytes, Direction::Out, next)
     } else if starts(bytes, tokens, "in") {
-        read_channel(alloc, sig, bytes, Way::In, next)
+        read_channel(alloc, sig, bytes, Direction::In, next)
     } else if starts(bytes, tokens, "event") {
         read_event(alloc, sig, bytes, next)
     } else {

@@ -2,7 +2,7 @@ use Rattle.std.proofs.Common.{◌≡◌, length, refl, ap, arith}
 use Rattle.std.specs.Prelude.{Vec}
 use Rattle.std.specs.declared.alloc.Global.{Global}
 use Rattle.std.proofs.lemmas.Option.{slice_get_read, slice_get_within}
-use Rattle.sap_derive.specs.declared.way.Wait.{Wait}
+use Rattle.sap_derive.specs.declared.grounds.Wait.{Wait}
 use Rattle.sap_derive.proofs.closure.wait_at.Goals as goal
 
 pub returns : goal.returns

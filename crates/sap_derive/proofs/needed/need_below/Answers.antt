@@ -6,7 +6,7 @@ use Rattle.sap_derive.specs.code.Lines.{premises_of}
 use Rattle.sap_derive.specs.code.Listed.{IsListed}
 use Rattle.sap_derive.specs.code.Needed.{StandsOn, IsCovered, AreCovered}
 use Rattle.sap_derive.specs.declared.clause.Clause.{Clause}
-use Rattle.sap_derive.specs.declared.way.Way.TheVariants.{Given, By}
+use Rattle.sap_derive.specs.declared.grounds.Grounds.TheVariants.{Given, By}
 use Rattle.sap_derive.proofs.needed.need_below.Goals as goal
 
 pub at-requires : goal.at-requires

@@ -5,7 +5,7 @@ use Rattle.sap_derive.specs.code.Listed.{IsListed}
 use Rattle.sap_derive.specs.code.Needed.{IsLineOver, Writes, there, one_line}
 use Rattle.sap_derive.specs.declared.clause.Clause.{Clause}
 use Rattle.sap_derive.specs.declared.line.Line.{Line}
-use Rattle.sap_derive.specs.declared.way.Way.TheVariants.{Given, By}
+use Rattle.sap_derive.specs.declared.grounds.Grounds.TheVariants.{Given, By}
 use Rattle.sap_derive.proofs.Options.{from-some, from-none, ok-both}
 use Rattle.sap_derive.proofs.write.write_next.Goals as goal
 

@@ -1,6 +1,6 @@
 use Rattle.std.proofs.Common.{inl, inr, sym}
 use Rattle.sap_derive.specs.code.Listed.{IsListed}
-use Rattle.sap_derive.specs.declared.way.Way.TheVariants.{Given}
+use Rattle.sap_derive.specs.declared.grounds.Grounds.TheVariants.{Given}
 use Rattle.sap_derive.proofs.Options.{from-none}
 use Rattle.sap_derive.proofs.Sound.{sound-learned, learned-kept, learned-later, learned-given}
 use Rattle.sap_derive.proofs.Settled.{settled-kept}

@@ -2,7 +2,7 @@ use Rattle.std.proofs.Common.{refl, arith, subst, sym, ◌∙◌}
 use Rattle.std.specs.Prelude.{List, Vec}
 use Rattle.std.specs.declared.alloc.Global.{Global}
 use Rattle.sap_derive.specs.code.Closed.{IsWaitAt}
-use Rattle.sap_derive.specs.declared.way.Wait.{Wait}
+use Rattle.sap_derive.specs.declared.grounds.Wait.{Wait}
 use Rattle.sap_derive.proofs.Settled.{grows-same, grows-then}
 use Rattle.sap_derive.proofs.closure.Closure.look_at_all.Goals as goal
 

@@ -1,7 +1,7 @@
 use Rattle.std.proofs.Common.{◌≡◌, ◌<◌, ℕ, Some}
 use Rattle.std.specs.Prelude.{slice_get}
 use Rattle.sap_derive.specs.code.Closed.{IsClosure, Grows, IsWaitAt}
-use Rattle.sap_derive.specs.declared.way.Wait.{Wait}
+use Rattle.sap_derive.specs.declared.grounds.Wait.{Wait}
 use Rattle.sap_derive.proofs.closure.Closure.look_at_all.Given as goal
 
 abbrev pub invariant-loop : goal.invariant-loop

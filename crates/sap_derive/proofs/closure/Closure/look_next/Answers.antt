@@ -1,7 +1,7 @@
 use Rattle.std.proofs.Common.{◌≡◌, ◌+◌, ℕ, Some, arith, subst}
 use Rattle.std.specs.Prelude.{slice_get, List, Vec}
 use Rattle.std.specs.declared.alloc.Global.{Global}
-use Rattle.sap_derive.specs.declared.way.Wait.{Wait}
+use Rattle.sap_derive.specs.declared.grounds.Wait.{Wait}
 use Rattle.std.proofs.lemmas.Option.{slice_get_within}
 use Rattle.sap_derive.specs.code.Lines.{premises_of}
 use Rattle.sap_derive.specs.code.Listed.{AreListedBefore}

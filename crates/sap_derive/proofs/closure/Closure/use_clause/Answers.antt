@@ -3,7 +3,7 @@ use Rattle.std.specs.Prelude.{slice_get}
 use Rattle.sap_derive.specs.code.Lines.{premises_of}
 use Rattle.sap_derive.specs.declared.clause.Clause.{Clause}
 use Rattle.sap_derive.specs.code.Listed.{IsListed, AreListed}
-use Rattle.sap_derive.specs.declared.way.Way.TheVariants.{By}
+use Rattle.sap_derive.specs.declared.grounds.Grounds.TheVariants.{By}
 use Rattle.sap_derive.proofs.Options.{from-none}
 use Rattle.sap_derive.proofs.Sound.{sound-learned, learned-kept, learned-later, learned-given}
 use Rattle.sap_derive.proofs.closure.Closure.use_clause.Goals as goal

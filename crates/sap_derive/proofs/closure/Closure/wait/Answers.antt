@@ -4,7 +4,7 @@ use Rattle.std.proofs.lemmas.Option.{get_or_from_slice_get}
 use Rattle.std.proofs.lemmas.Result.{on_ok_weaker}
 use Rattle.sap_derive.specs.code.Closed.{IsParked, IsWaiting}
 use Rattle.sap_derive.specs.code.Listed.{IsListed}
-use Rattle.sap_derive.specs.declared.way.Wait.{Wait}
+use Rattle.sap_derive.specs.declared.grounds.Wait.{Wait}
 use Rattle.sap_derive.proofs.Sound.{sound-parked}
 use Rattle.sap_derive.proofs.closure.Closure.wait.Goals as goal
 

@@ -11,7 +11,7 @@ pub(crate) enum Given {
 
 // An origin as it is stored.
 #[derive(Clone, Copy)]
-pub(crate) enum Way {
+pub(crate) enum StoredOrigin {
     Given(Given),
     // The symbol of this place among the symbols, on so many entries of a list, from a place on.
     Applied { symbol: u64, from: u64, count: u64 },

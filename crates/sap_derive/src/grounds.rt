@@ -2,7 +2,7 @@
 
 // How a number became known.
 #[derive(Clone, Copy)]
-pub(crate) enum Way {
+pub(crate) enum Grounds {
     Given,
     // By the clause at this index.
     By(u64),
