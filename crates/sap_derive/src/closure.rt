@@ -8,8 +8,8 @@ ghost use Rattle.sap_derive.specs.declared.grounds.Wait.{Wait as TheWait};
 ghost use Rattle.sap_derive.specs.declared.clause.Clause.{Clause as TheClause};
 
 use crate::clause::Clause;
+use crate::grounds::{Grounds, Wait};
 use crate::listing::Listing;
-use crate::grounds::{Wait, Grounds};
 use sap_terms::{Items, Mem};
 use std::alloc::Global;
 

@@ -7,6 +7,7 @@ mod clause;
 mod closure;
 mod derivation;
 mod derived;
+mod grounds;
 mod laws;
 mod line;
 mod listing;
@@ -15,7 +16,6 @@ mod openers;
 mod search;
 mod shape;
 mod state;
-mod grounds;
 mod write;
 
 pub use by_hand::lines_by_hand;

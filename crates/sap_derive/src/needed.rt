@@ -5,8 +5,8 @@ ghost use Rattle.sap_derive.specs.code.Listed.{IsListed, AreListed, StandOnce};
 ghost use Rattle.sap_derive.specs.code.Needed.{StandsOn, IsNewRank, IsNewRankOf, IsCovered, AreCovered, AreNeeded};
 
 use crate::closure::Closure;
-use crate::listing::{Listing, list};
 use crate::grounds::Grounds;
+use crate::listing::{Listing, list};
 use sap_terms::Mem;
 
 // Puts the rank of a number last that is no entry, unless it is there.

@@ -10,10 +10,10 @@ ghost use Rattle.sap_derive.specs.declared.grounds.Grounds.TheVariants.{Given as
 
 use crate::clause::Clause;
 use crate::closure::Closure;
+use crate::grounds::Grounds;
 use crate::line::{Line, LineList};
 use crate::listing::Listing;
 use crate::needed::need;
-use crate::grounds::Grounds;
 use sap_terms::{Copied, Mem, Numbers};
 use std::alloc::Global;
 

@@ -39,7 +39,12 @@ fn alone(alloc: Global, way: Direction, message: Term) -> Result<Box<Doing>, Mem
     }
 }
 
-fn on_channel(alloc: Global, way: Direction, channel: Term, message: Term) -> Result<Box<Doing>, Mem>
+fn on_channel(
+    alloc: Global,
+    way: Direction,
+    channel: Term,
+    message: Term,
+) -> Result<Box<Doing>, Mem>
     ensures { IfOk result (λ d. doing d.value ≡ on_channel way (tree channel) (tree message)) }
 {
     match way {
