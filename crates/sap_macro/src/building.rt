@@ -1,5 +1,5 @@
 //! Expansions of processes.
-ghost use Rattle.std.specs.Prelude.{◌≡◌, ◌<◌, ℕ, List, [], IfNone, IfOk, IfSome, OnOk, is_some, map, slice_get};
+ghost use Rattle.std.specs.Prelude.{◌≡◌, ◌<◌, ◌≤◌, ◌-◌, ℕ, List, [], IfNone, IfOk, IfSome, OnOk, drop, is_some, length, map, slice_get};
 ghost use Rattle.std.specs.Option.{unwrap_or};
 ghost use Rattle.sap_terms.specs.Choice.{instance};
 ghost use Rattle.sap_terms.specs.NameMap.{value_at};
@@ -29,6 +29,7 @@ use crate::standing::{Standing, nothing_put};
 use sap_process::{Process, ended, replaced_terms};
 use sap_terms::{Copied, Mem, Name, NameList, NameMap, NameSet, Term, TermList};
 use std::alloc::Global;
+use std::mem;
 
 // The argument at the index, '' where there is none.
 fn argument(alloc: Global, args: &TermList, k: u64) -> Result<Term, Mem>
@@ -47,11 +48,33 @@ fn by_params(alloc: Global, params: &NameList, args: &TermList) -> Result<NameMa
     let mut terms = NameMap::new(alloc);
     let mut k = params.len();
     while 0 < k {
+        put_before(alloc, params, args, k, &mut terms)?;
         k -= 1;
-        let name = params.at(k).copy(alloc)?;
-        terms.insert(name, argument(alloc, args, k)?)?;
     }
     Ok(terms)
+}
+
+// Puts the argument before this index by its parameter, where those from the index on are put.
+fn put_before(
+    alloc: Global,
+    params: &NameList,
+    args: &TermList,
+    k: u64,
+    terms: &mut NameMap<Term>,
+) -> Result<(), Mem>
+    requires some { 0 < k }
+    requires within { k ≤ length params.now }
+    requires put { ArePut (drop k params.now) (drop k args.now) terms.now }
+    ensures { OnOk result (ArePut (drop (k - 1) params.now) (drop (k - 1) args.now) terms.new) }
+{
+    let name = params.at(k - 1).copy(alloc)?;
+    match argument(alloc, args, k - 1) {
+        Ok(t) => terms.insert(name, t),
+        Err(e) => {
+            drop(name);
+            Err(e)
+        }
+    }
 }
 
 // The names that the body binds, each once, in the order of their first binders.
@@ -187,7 +210,7 @@ fn reached<'a>(
             None => return Ok(Some((inner, at))),
             Some(e) => {
                 let (next, form) = passed(alloc, defs, index, &inner, chosen, e, terms)?;
-                inner = next;
+                drop(mem::replace(&mut inner, next));
                 at = form;
             }
         }

@@ -13,8 +13,19 @@ pub(crate) fn both<T: Drop, U: Drop>(
 ) -> Result<(T, U), Mem>
     ensures { IfOk result (λ two. (left ≡ Ok two.0) × (right ≡ Ok two.1)) }
 {
-    let left = left?;
-    Ok((left, right?))
+    match left {
+        Ok(left) => match right {
+            Ok(right) => Ok((left, right)),
+            Err(e) => {
+                drop(left);
+                Err(e)
+            }
+        },
+        Err(e) => {
+            drop(right);
+            Err(e)
+        }
+    }
 }
 
 // Puts a copy last.

@@ -1,9 +1,10 @@
 //! What the head of a process binds, and tests of its names against those in scope.
-ghost use Rattle.std.specs.Prelude.{◌≡◌, ◌++◌, IfOk, OnOk};
+ghost use Rattle.std.specs.Prelude.{◌≡◌, [], ◌∷◌, ◌++◌, IfOk, OnOk};
 ghost use Rattle.sap_terms.specs.Variables.{facts_vars};
 ghost use Rattle.sap_process.specs.Action.{embedded};
 ghost use Rattle.sap_process.specs.Proc.{proc};
 ghost use Rattle.sap_process.specs.Flaws.{unbound, unbound_at, scope_at};
+ghost use Rattle.sap_process.specs.Sites.{message_var};
 ghost use Rattle.sap_process.specs.code.Binders.{with_new};
 ghost use Rattle.sap_process.specs.code.Tests.{has_items, rebinds, tested_at};
 
@@ -35,6 +36,13 @@ pub(crate) fn bind(alloc: Global, scope: &mut Scope, p: &Process) -> Result<(), 
         Process::Embedded(l, e, r, _) => bind_rule(alloc, scope, l, e, r),
         _ => Ok(()),
     }
+}
+
+// Puts what a lookup binds into scope.
+pub(crate) fn bind_message(alloc: Global, scope: &mut Scope, x: &Var) -> Result<(), Mem>
+    ensures { OnOk result (scope.new ≡ scope.old ++ message_var x.now ∷ []) }
+{
+    scope.push(with_sort(alloc, x, Sort::Msg)?)
 }
 
 // What is tested of a place before its head binds: whether a fact there clashes with an earlier one, whether a name is used that

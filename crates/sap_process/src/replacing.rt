@@ -1,7 +1,8 @@
 //! Heads of processes with their variables replaced: a function for each form, over what stands below it.
-ghost use Rattle.std.specs.Prelude.{◌≡◌, IfOk, map};
+ghost use Rattle.std.specs.Prelude.{◌≡◌, [], ◌∷◌, ◌++◌, IfOk, OnOk, map};
 ghost use Rattle.sap_terms.specs.Choice.{Choice, instance};
 ghost use Rattle.sap_terms.specs.Modulo.{instance_fact, instance_facts};
+ghost use Rattle.sap_terms.specs.Tree.{Tree};
 ghost use Rattle.sap_terms.specs.View.{tree};
 ghost use Rattle.sap_terms.specs.declared.var.Var.{Var};
 ghost use Rattle.sap_process.specs.Action.{new, event, embedded};
@@ -72,12 +73,16 @@ pub fn replaced_terms<R: Replacing>(alloc: Global, r: &R, ts: &TermList) -> Resu
 {
     let mut made = TermList::with_room(alloc, ts.len())?;
     for k in 0..ts.len() {
-        match replaced_term(alloc, r, ts.at(k)) {
-            Ok(t) => made.push(t)?,
-            Err(e) => return Err(e),
-        }
+        push_term(&mut made, replaced_term(alloc, r, ts.at(k)))?;
     }
     Ok(made)
+}
+
+// Puts the term last, where it is there.
+fn push_term(terms: &mut TermList, t: Result<Term, Mem>) -> Result<(), Mem>
+    ensures { (u : Tree) → IfOk t (λ v. tree v ≡ u) → OnOk result (terms.new ≡ terms.old ++ u ∷ []) }
+{
+    terms.push(t?)
 }
 
 // The same of two.
@@ -263,8 +268,13 @@ pub fn over_term<R: Replacing>(
     ensures { IfOk result (λ q. proc q.value
         ≡ act (on_term deed (instance (R.choice r.now) (tree t.now))) (proc below.value)) }
 {
-    let t = replaced_term(alloc, r, t)?;
-    boxed(alloc, with_term(deed, t, below))
+    match replaced_term(alloc, r, t) {
+        Ok(t) => boxed(alloc, with_term(deed, t, below)),
+        Err(e) => {
+            drop(below);
+            Err(e)
+        }
+    }
 }
 
 /// The same with two.
@@ -280,8 +290,13 @@ pub fn over_terms<R: Replacing>(
         ≡ act (on_terms transfer (instance (R.choice r.now) (tree t.now)) (instance (R.choice r.now) (tree u.now)))
         (proc below.value)) }
 {
-    let (t, u) = both_replaced(alloc, r, t, u)?;
-    boxed(alloc, with_terms(transfer, t, u, below))
+    match both_replaced(alloc, r, t, u) {
+        Ok((t, u)) => boxed(alloc, with_terms(transfer, t, u, below)),
+        Err(e) => {
+            drop(below);
+            Err(e)
+        }
+    }
 }
 
 /// The event of the fact, with its variables replaced, over this process.

@@ -9,7 +9,7 @@ ghost use Rattle.sap_process.specs.Sites.{fresh_var, message_var};
 ghost use Rattle.sap_process.specs.Sorted.{by_binder, with_sorts};
 
 use crate::joining::both;
-use crate::naming::{bind, with_sort};
+use crate::naming::{bind, bind_message, with_sort};
 use crate::replacing::{Replacing, ended, looking_up, over, over_both};
 use crate::scope::Scope;
 use crate::{Children, Process};
@@ -111,7 +111,7 @@ fn sorted_with(alloc: Global, scope: &mut Scope, x: &Var, p: &Process) -> Result
     ensures same { OnOk result (scope.new ≡ scope.old) }
 {
     let before = scope.len();
-    scope.push(with_sort(alloc, x, Sort::Msg)?)?;
+    bind_message(alloc, scope, x)?;
     let made = sorted(alloc, scope, p);
     scope.cut(before);
     made

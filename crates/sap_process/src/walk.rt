@@ -12,11 +12,11 @@ ghost use Rattle.sap_process.specs.code.Walks.{first_flaw, found_at, unmet};
 
 use crate::found::Found;
 use crate::heads::{has_pattern_destructor, has_reserved_fact, has_reserved_var, is_bad_head};
-use crate::naming::{Tested, test, with_sort};
+use crate::naming::{Tested, bind_message, test};
 use crate::occurrences::any_at_head;
 use crate::scope::Scope;
 use crate::{Children, Flaw, Process};
-use sap_terms::{Mem, Path, Signature, Sort, Var, Vars};
+use sap_terms::{Mem, Path, Signature, Var, Vars};
 use std::alloc::Global;
 
 // Where a walk in preorder stands: the path of the place, what is in scope there, and what was found before.
@@ -170,7 +170,7 @@ fn search_with(
         (sites_from (walk.old.trail ++ 1 ∷ []) (walk.old.scope ++ message_var x.now ∷ []) locks (proc q.now))) }
 {
     let outside = walk.scope.len();
-    walk.scope.push(with_sort(alloc, x, Sort::Msg)?)?;
+    bind_message(alloc, &mut walk.scope, x)?;
     let found = search_child(alloc, sig, walk, 1, locks, q);
     walk.scope.cut(outside);
     found

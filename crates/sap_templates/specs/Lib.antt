@@ -1,4 +1,4 @@
-pub mod ChannelFacts
-pub mod Templates
-pub mod Places
+pub use Rattle.sap_outlines.specs.ChannelFacts
+pub use Rattle.sap_outlines.specs.Templates
+pub use Rattle.sap_outlines.specs.Places
 pub mod code

@@ -2,15 +2,17 @@
 ghost use Rattle.std.specs.Prelude.{◌≡◌, [], ◌∷◌, ◌++◌, IfOk, OnOk, unwrap_or};
 ghost use Rattle.sap_terms.specs.Path.{IsDigit};
 ghost use Rattle.sap_process.specs.Proc.{proc};
-ghost use Rattle.sap_templates.specs.Places.{scope_handed_down};
-ghost use Rattle.sap_templates.specs.Templates.{place_rules, rules_of};
+ghost use Rattle.sap_outlines.specs.Places.{scope_handed_down};
+ghost use Rattle.sap_outlines.specs.Templates.{init_rule, own_rules, place_rules, rules_of};
 ghost use Rattle.sap_templates.specs.code.Inside.{rules_below};
 
-use crate::rules::{add_own, push_init};
+use crate::making::{Site, push_rule, push_rules};
+use crate::terms::terms_of;
+use sap_outlines::{init, outlines};
 use sap_place::{path_below, with_lock, with_pattern, with_rule, with_var};
 use sap_process::{Children, Process};
 use sap_rule::RuleList;
-use sap_terms::{Mem, Path, Signature, Sort, Vars};
+use sap_terms::{Mem, Path, Signature, Sort, TermList, Vars};
 use std::alloc::Global;
 
 /// The rules of an annotated process: `Init`, and then those of its places in preorder. Want of memory is the only error.
@@ -20,18 +22,41 @@ pub fn generate(alloc: Global, _sig: &Signature, p: &Process) -> Result<RuleList
     ensures { IfOk result (λ rules. rules ≡ rules_of (proc p.now)) }
 {
     let mut rules = RuleList::new(alloc);
-    push_init(alloc, &mut rules)?;
     add_all(alloc, p, &mut rules)?;
     Ok(rules)
 }
 
-// Puts the rules of all places last.
+// Puts `Init` and the rules of all places last.
 fn add_all(alloc: Global, p: &Process, rules: &mut RuleList) -> Result<(), Mem>
-    ensures { OnOk result (rules.new ≡ rules.old ++ place_rules [] [] (proc p.now)) }
+    ensures { OnOk result (rules.new ≡ rules.old ++ rules_of (proc p.now)) }
 {
     let root = Path::new(alloc);
     let scope = Vars::new(alloc);
+    push_init(alloc, p, &root, &scope, rules)?;
     add_places(p, alloc, &root, &scope, rules)
+}
+
+// Puts `Init` last.
+fn push_init(
+    alloc: Global,
+    p: &Process,
+    root: &Path,
+    scope: &Vars,
+    rules: &mut RuleList,
+) -> Result<(), Mem>
+    requires path { root.now ≡ [] }
+    requires scope { scope.now ≡ [] }
+    ensures { OnOk result (rules.new ≡ rules.old ++ init_rule ∷ []) }
+{
+    let terms = TermList::new(alloc);
+    let site = Site {
+        process: p,
+        path: root,
+        scope,
+        inner: scope,
+        terms: &terms,
+    };
+    push_rule(alloc, &site, &init(), rules)
 }
 
 // Puts the rules of the places from this one on last.
@@ -108,6 +133,30 @@ fn add_child(
 {
     let child = path_below(alloc, path, digit)?;
     add_places(q, alloc, &child, scope, rules)
+}
+
+// Puts the rules of the place with this path last, where the one scope is that at the place, and the inner one that of its
+// first child.
+fn add_own(
+    p: &Process,
+    alloc: Global,
+    path: &Path,
+    scope: &Vars,
+    inner: &Vars,
+    rules: &mut RuleList,
+) -> Result<(), Mem>
+    requires { inner.now ≡ scope_handed_down scope.now (proc p.now) 1 }
+    ensures { OnOk result (rules.new ≡ rules.old ++ own_rules path.now scope.now (proc p.now)) }
+{
+    let terms = terms_of(alloc, p)?;
+    let site = Site {
+        process: p,
+        path,
+        scope,
+        inner,
+        terms: &terms,
+    };
+    push_rules(alloc, &site, outlines(p), rules)
 }
 
 // The scope at the first child, where the place binds something.

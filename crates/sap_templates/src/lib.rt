@@ -1,8 +1,8 @@
-//! The rules of a process, which templates make of its places one by one.
+//! The rules of a process, which are made of its places one by one, after their outlines.
 #![tactic(auto)]
 
-mod facts;
 mod generation;
-mod rules;
+mod making;
+mod terms;
 
 pub use generation::generate;

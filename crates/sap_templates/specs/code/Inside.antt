@@ -3,7 +3,7 @@ use Rattle.std.specs.Prelude.{ℕ, List, [], ◌++◌}
 use Rattle.sap_terms.specs.declared.var.Var.{Var}
 use Rattle.sap_process.specs.Proc.{Proc, nil, parallel, replicated, act, test, lookup}
 use Rattle.sap_rule.specs.declared.rule.Rule.{Rule}
-use Rattle.sap_templates.specs.Templates.{first_of, second_of, place_rules}
+use Rattle.sap_outlines.specs.Templates.{first_of, second_of, place_rules}
 
 -- the rules of the places below the one with this path, in preorder; the inner scope is that at its first child
 abbrev pub rules_below : List ℕ → List Var → List Var → Proc → List Rule

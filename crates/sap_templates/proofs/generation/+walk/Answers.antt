@@ -1,9 +1,8 @@
 use Rattle.std.proofs.Common.{◌++◌, ap, ◌∙◌}
 use Rattle.sap_process.specs.Proc.{proc}
-use Rattle.sap_templates.specs.Templates.{own_rules, place_rules}
+use Rattle.sap_outlines.specs.Templates.{own_rules, place_rules}
 use Rattle.sap_templates.specs.code.Inside.{rules_below}
-use Rattle.sap_templates.proofs.Cuts.{cut_at_root}
-use Rattle.sap_templates.proofs.Joins.{after}
+use Rattle.sap_templates.proofs.Cuts.{after, cut_at_root}
 use Rattle.sap_templates.proofs.generation.+walk.Goals as goal
 
 pub add_from-returns : goal.add_from-returns

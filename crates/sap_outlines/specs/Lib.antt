@@ -1,0 +1,4 @@
+pub mod ChannelFacts
+pub mod Templates
+pub mod Places
+pub mod Outlines
