@@ -7,6 +7,7 @@ ghost use Rattle.sap_process_lines.specs.Told.{GivesTold, left_if, lines_if, tol
 use crate::cited::{behind_first, count_up, number_cited, numbers_cited};
 use crate::desk::Desk;
 use crate::kind::{Kind, kind_of};
+use sap_input::push_input;
 use sap_runs::{PStep, PSteps};
 use sap_terms::{Bindings, Copied, Mem, Name, Numbers};
 use std::alloc::Global;
@@ -138,8 +139,9 @@ impl Desk {
     {
         match self.pending {
             Some(e) => {
+                push_input(t, e, lines)?;
                 self.pending = None;
-                self.goes(PStep::In(t, e), t, lines)
+                self.comes(t)
             }
             None => Ok(()),
         }
