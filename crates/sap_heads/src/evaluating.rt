@@ -83,5 +83,6 @@ pub fn name_value(alloc: Global, table: &mut Table, n: u64) -> Result<u64, Mem>
     ensures keeps { Keeps table.old table.new }
 {
     leaves_are_normal();
-    table.put(alloc, &Term::Fresh(n))
+    let k = table.put(alloc, &Term::Fresh(n))?;
+    Ok(k)
 }
