@@ -34,25 +34,19 @@ pub(crate) fn process_of(word: &[u8], operands: Operands) -> Option<PStep>
         Operands::Public(s) => if is(word, b"pub") {
             Some(PStep::Public(s))
         } else {
-            drop(s);
             None
         },
         Operands::Applied(f, ks) => if is(word, b"app") {
             Some(PStep::Apply(f, ks))
         } else {
-            drop((f, ks));
             None
         },
         Operands::Embedded(t, facts, bindings) => if is(word, b"rule") {
             Some(PStep::Embedded(t, facts, bindings))
         } else {
-            drop((facts, bindings));
             None
         },
-        Operands::Named(name, facts, bindings) => {
-            drop((name, facts, bindings));
-            None
-        }
+        Operands::Named(_, _, _) => None,
     }
 }
 
@@ -72,23 +66,17 @@ pub(crate) fn rule_of(word: &[u8], operands: Operands) -> Option<RStep>
         Operands::Public(s) => if is(word, b"pub") {
             Some(RStep::Public(s))
         } else {
-            drop(s);
             None
         },
         Operands::Applied(f, ks) => if is(word, b"app") {
             Some(RStep::Apply(f, ks))
         } else {
-            drop((f, ks));
             None
         },
-        Operands::Embedded(_, facts, bindings) => {
-            drop((facts, bindings));
-            None
-        }
+        Operands::Embedded(_, _, _) => None,
         Operands::Named(name, facts, bindings) => if is(word, b"rule") {
             Some(RStep::Rule(name, facts, bindings))
         } else {
-            drop((name, facts, bindings));
             None
         },
     }
