@@ -57,16 +57,9 @@ fn sides(
 ) -> Result<(FactList, FactList, FactList), Mem>
     ensures { IfOk result (λ s. (s.0 ≡ l.now) × (s.1 ≡ e.now) × (s.2 ≡ r.now)) }
 {
-    match two(alloc, l, e) {
-        Err(mem) => Err(mem),
-        Ok((l, e)) => match r.copy(alloc) {
-            Err(mem) => {
-                drop((l, e));
-                Err(mem)
-            }
-            Ok(r) => Ok((l, e, r)),
-        },
-    }
+    let l = l.copy(alloc)?;
+    let e = e.copy(alloc)?;
+    Ok((l, e, r.copy(alloc)?))
 }
 
 /// The form of a process. Want of memory is the only error. It recurses as deep as the process.

@@ -30,18 +30,14 @@ fn add_form(
 ) -> Result<u64, Mem>
     ensures { IfOk result (λ k. AddsForm places.old places.new (proc p.now) k first second) }
 {
+    let form = form_of(alloc, p)?;
     let number = places.len();
-    match form_of(alloc, p) {
-        Err(mem) => Err(mem),
-        Ok(form) => {
-            places.push(Place {
-                form,
-                first,
-                second,
-            })?;
-            Ok(number)
-        }
-    }
+    places.push(Place {
+        form,
+        first,
+        second,
+    })?;
+    Ok(number)
 }
 
 // Adds the places of a process, and gives the number of its root.
