@@ -234,16 +234,9 @@ fn take_uses(alloc: Global, bytes: &[u8]) -> Result<Option<(Numbers, Bindings)>,
     ensures { IfOk result (λ o. o ≡ on_words uses_of bytes.now) }
 {
     let (numbers, rest) = take_numbers(alloc, bytes)?;
-    match take_with(alloc, rest) {
-        Err(mem) => {
-            drop(numbers);
-            Err(mem)
-        }
-        Ok(None) => {
-            drop(numbers);
-            Ok(None)
-        }
-        Ok(Some(bindings)) => Ok(Some((numbers, bindings))),
+    match take_with(alloc, rest)? {
+        None => Ok(None),
+        Some(bindings) => Ok(Some((numbers, bindings))),
     }
 }
 
@@ -256,13 +249,10 @@ fn take_applied(alloc: Global, bytes: &[u8]) -> Result<Option<(Name, Numbers)>, 
     };
     match all_numbers(alloc, rest)? {
         None => Ok(None),
-        Some(numbers) => match Name::from_bytes(alloc, symbol) {
-            Err(mem) => {
-                drop(numbers);
-                Err(mem)
-            }
-            Ok(symbol) => Ok(Some((symbol, numbers))),
-        },
+        Some(numbers) => {
+            let symbol = Name::from_bytes(alloc, symbol)?;
+            Ok(Some((symbol, numbers)))
+        }
     }
 }
 
@@ -275,13 +265,10 @@ fn take_named(alloc: Global, bytes: &[u8]) -> Result<Option<(Name, Numbers, Bind
     };
     match take_uses(alloc, rest)? {
         None => Ok(None),
-        Some((facts, bindings)) => match Name::from_bytes(alloc, name) {
-            Err(mem) => {
-                drop((facts, bindings));
-                Err(mem)
-            }
-            Ok(name) => Ok(Some((name, facts, bindings))),
-        },
+        Some((facts, bindings)) => {
+            let name = Name::from_bytes(alloc, name)?;
+            Ok(Some((name, facts, bindings)))
+        }
     }
 }
 
