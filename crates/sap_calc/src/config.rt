@@ -1,5 +1,6 @@
 //! Where a run of a process stands, and each line done on it.
 ghost use Rattle.std.specs.Prelude.{◌≡◌, [], IfOk, IfErr, OnErr};
+ghost use Rattle.sap_deduce.specs.Entries.{AreNumbered};
 ghost use Rattle.sap_process.specs.Configuration.{initial};
 ghost use Rattle.sap_process.specs.Proc.{proc};
 ghost use Rattle.sap_process.specs.Ready.{IsReady};
@@ -71,6 +72,24 @@ impl Model for Config {
     }) };
 }
 
+// A table without terms, and what the adversary knows at the start, which is nothing.
+fn nothing_known(alloc: Global, sig: &Signature) -> Result<(Table, Knowledge), Mem>
+    ensures table { IfOk result (λ r. (r.0.sig ≡ sig.now) × (r.0.trees ≡ [])) }
+    ensures empty { IfOk result (λ r. (r.1.sig ≡ sig.now) × (r.1.entries ≡ [])) }
+    ensures numbered { IfOk result (λ r. AreNumbered r.0 r.1) }
+{
+    match Table::new(alloc, sig) {
+        Err(mem) => Err(mem),
+        Ok(table) => match Knowledge::new(alloc, sig) {
+            Err(mem) => {
+                drop(table);
+                Err(mem)
+            }
+            Ok(knowledge) => Ok((table, knowledge)),
+        },
+    }
+}
+
 impl Config {
     /// A configuration in which the process runs as thread 0, and nothing else is there. The process is read once; it is not
     /// kept. It recurses as deep as the process and its terms.
@@ -81,21 +100,32 @@ impl Config {
         ensures configuration { IfOk result (λ c. configuration c ≡ initial (proc p.now)) }
     {
         instances_of_processes();
-        let (places, root) = places_of(alloc, p)?;
-        let threads = first_thread(alloc, root)?;
-        let table = Table::new(alloc, sig)?;
-        let knowledge = Knowledge::new(alloc, sig)?;
-        Ok(Config {
-            places,
-            table,
-            threads,
-            store: IndexMap::new(alloc),
-            held: IndexMap::new(alloc),
-            facts: SharedPile::new(alloc),
-            made: IndexSet::new(alloc),
-            own: IndexSet::new(alloc),
-            knowledge,
-        })
+        match places_of(alloc, p) {
+            Err(mem) => Err(mem),
+            Ok((places, root)) => match first_thread(alloc, root) {
+                Err(mem) => {
+                    drop(places);
+                    Err(mem)
+                }
+                Ok(threads) => match nothing_known(alloc, sig) {
+                    Err(mem) => {
+                        drop((places, threads));
+                        Err(mem)
+                    }
+                    Ok((table, knowledge)) => Ok(Config {
+                        places,
+                        table,
+                        threads,
+                        store: IndexMap::new(alloc),
+                        held: IndexMap::new(alloc),
+                        facts: SharedPile::new(alloc),
+                        made: IndexSet::new(alloc),
+                        own: IndexSet::new(alloc),
+                        knowledge,
+                    }),
+                },
+            },
+        }
     }
 
     /// Lets a thread end that is nothing. Refused, nothing changes.
@@ -127,11 +157,17 @@ impl Config {
         if !place.form.is_par() {
             return Err(PFault::WrongForm { t });
         }
-        let other = copy_at(alloc, th, place.second)?;
         let next = place.first;
-        add(&mut self.threads, other)?;
-        go_on(&mut self.threads, t, next);
-        Ok(FactList::new(alloc))
+        match copy_at(alloc, th, place.second) {
+            Err(_) => Err(PFault::Mem),
+            Ok(other) => match add(&mut self.threads, other) {
+                Err(_) => Err(PFault::Mem),
+                Ok(()) => {
+                    go_on(&mut self.threads, t, next);
+                    Ok(FactList::new(alloc))
+                }
+            },
+        }
     }
 
     /// Lets a replication give one more thread. Refused, nothing changes.

@@ -66,7 +66,10 @@ impl Config {
                 match shown_number(alloc, &self.table, e) {
                     Err(_) => Err(PFault::Mem),
                     Ok(label) => match send(&self.table, &mut self.knowledge, j) {
-                        Err(_) => Err(PFault::Mem),
+                        Err(_) => {
+                            drop(label);
+                            Err(PFault::Mem)
+                        }
                         Ok(()) => {
                             go_on(&mut self.threads, t, next);
                             Ok(label)

@@ -34,9 +34,21 @@ fn term_under(alloc: Global, table: &Table, env: &Env, t: &Term) -> Result<Term,
 {
     match t {
         Term::Var(v) => given_term(alloc, table, env, v),
-        Term::Public(n) => Ok(Term::Public(n.copy(alloc)?)),
+        Term::Public(n) => match n.copy(alloc) {
+            Err(mem) => Err(mem),
+            Ok(n) => Ok(Term::Public(n)),
+        },
         Term::Fresh(k) => Ok(Term::Fresh(*k)),
-        Term::App(f, ts) => Ok(Term::App(f.copy(alloc)?, terms_under(alloc, table, env, ts)?)),
+        Term::App(f, ts) => match terms_under(alloc, table, env, ts) {
+            Err(mem) => Err(mem),
+            Ok(ts) => match f.copy(alloc) {
+                Err(mem) => {
+                    drop(ts);
+                    Err(mem)
+                }
+                Ok(f) => Ok(Term::App(f, ts)),
+            },
+        },
     }
 }
 
@@ -48,7 +60,13 @@ fn terms_under(alloc: Global, table: &Table, env: &Env, ts: &TermList) -> Result
 {
     let mut made = TermList::with_room(alloc, ts.len())?;
     for k in 0..ts.len() {
-        made.push(term_under(alloc, table, env, ts.at(k))?)?;
+        match term_under(alloc, table, env, ts.at(k)) {
+            Err(mem) => {
+                drop(made);
+                return Err(mem);
+            }
+            Ok(t) => made.push(t)?,
+        }
     }
     Ok(made)
 }
@@ -58,14 +76,20 @@ fn fact_under(alloc: Global, table: &Table, env: &Env, f: &Fact) -> Result<Fact,
     requires { AreBound (length table.now.trees) env.now }
     ensures { IfOk result (λ h. h ≡ instance_fact (given table.now.trees env.now) f.now) }
 {
-    let args = terms_under(alloc, table, env, &f.args)?;
-    let name = f.name.copy(alloc)?;
-    let persistent = f.persistent;
-    Ok(Fact {
-        name,
-        persistent,
-        args,
-    })
+    match terms_under(alloc, table, env, &f.args) {
+        Err(mem) => Err(mem),
+        Ok(args) => match f.name.copy(alloc) {
+            Err(mem) => {
+                drop(args);
+                Err(mem)
+            }
+            Ok(name) => Ok(Fact {
+                name,
+                persistent: f.persistent,
+                args,
+            }),
+        },
+    }
 }
 
 // Facts.
@@ -75,7 +99,13 @@ fn facts_under(alloc: Global, table: &Table, env: &Env, fs: &FactList) -> Result
 {
     let mut made = FactList::new(alloc);
     for k in 0..fs.len() {
-        made.push(fact_under(alloc, table, env, fs.at(k))?)?;
+        match fact_under(alloc, table, env, fs.at(k)) {
+            Err(mem) => {
+                drop(made);
+                return Err(mem);
+            }
+            Ok(f) => made.push(f)?,
+        }
     }
     Ok(made)
 }
@@ -91,9 +121,16 @@ fn two_under(
     requires { AreBound (length table.now.trees) env.now }
     ensures { IfOk result (λ r. (tree r.0 ≡ instance (given table.now.trees env.now) (tree t.now)) × (tree r.1 ≡ instance (given table.now.trees env.now) (tree u.now))) }
 {
-    let first = term_under(alloc, table, env, t)?;
-    let second = term_under(alloc, table, env, u)?;
-    Ok((first, second))
+    match term_under(alloc, table, env, t) {
+        Err(mem) => Err(mem),
+        Ok(first) => match term_under(alloc, table, env, u) {
+            Err(mem) => {
+                drop(first);
+                Err(mem)
+            }
+            Ok(second) => Ok((first, second)),
+        },
+    }
 }
 
 // A term, and the variable beside it as it is.
@@ -107,9 +144,16 @@ fn looked_under(
     requires { AreBound (length table.now.trees) env.now }
     ensures { IfOk result (λ r. (tree r.0 ≡ instance (given table.now.trees env.now) (tree t.now)) × (r.1 ≡ x.now)) }
 {
-    let term = term_under(alloc, table, env, t)?;
-    let var = x.copy(alloc)?;
-    Ok((term, var))
+    match term_under(alloc, table, env, t) {
+        Err(mem) => Err(mem),
+        Ok(term) => match x.copy(alloc) {
+            Err(mem) => {
+                drop(term);
+                Err(mem)
+            }
+            Ok(var) => Ok((term, var)),
+        },
+    }
 }
 
 // The three sides of a rule.
@@ -124,10 +168,22 @@ fn sides_under(
     requires { AreBound (length table.now.trees) env.now }
     ensures { IfOk result (λ s. (s.0 ≡ instance_facts (given table.now.trees env.now) l.now) × (s.1 ≡ instance_facts (given table.now.trees env.now) e.now) × (s.2 ≡ instance_facts (given table.now.trees env.now) r.now)) }
 {
-    let left = facts_under(alloc, table, env, l)?;
-    let acts = facts_under(alloc, table, env, e)?;
-    let right = facts_under(alloc, table, env, r)?;
-    Ok((left, acts, right))
+    match facts_under(alloc, table, env, l) {
+        Err(mem) => Err(mem),
+        Ok(left) => match facts_under(alloc, table, env, e) {
+            Err(mem) => {
+                drop(left);
+                Err(mem)
+            }
+            Ok(acts) => match facts_under(alloc, table, env, r) {
+                Err(mem) => {
+                    drop((left, acts));
+                    Err(mem)
+                }
+                Ok(right) => Ok((left, acts, right)),
+            },
+        },
+    }
 }
 
 // A form with its variables replaced.

@@ -15,14 +15,21 @@ use std::alloc::Global;
 fn longer(alloc: Global, env: &Env, var: &Var, id: u64) -> Result<Env, Mem>
     ensures { IfOk result (λ r. r ≡ env.now ++ record { var = var.now; id = id } ∷ []) }
 {
-    let var = var.copy(alloc)?;
-    let mut new = env.copy(alloc)?;
-    match new.push(Bound { var, id }) {
-        Err(_) => {
-            drop(new);
-            Err(Mem)
-        }
-        Ok(()) => Ok(new),
+    match env.copy(alloc) {
+        Err(mem) => Err(mem),
+        Ok(mut new) => match var.copy(alloc) {
+            Err(mem) => {
+                drop(new);
+                Err(mem)
+            }
+            Ok(var) => match new.push(Bound { var, id }) {
+                Err(_) => {
+                    drop(new);
+                    Err(Mem)
+                }
+                Ok(()) => Ok(new),
+            },
+        },
     }
 }
 

@@ -61,15 +61,19 @@ fn form_of_fact(alloc: Global, table: &mut Table, env: &Env, f: &Fact) -> Result
     ensures refused { IfErr result (IsValueFault table.old.sig (map (instance (given table.old.trees env.now)) f.now.args)) }
     ensures keeps { Keeps table.old table.new }
 {
-    let name = f.name.copy(alloc)?;
-    let persistent = f.persistent;
     match forms(alloc, table, env, &f.args) {
         Err(fault) => Err(fault),
-        Ok(args) => Ok(Fact {
-            name,
-            persistent,
-            args,
-        }),
+        Ok(args) => match f.name.copy(alloc) {
+            Err(_) => {
+                drop(args);
+                Err(PFault::Mem)
+            }
+            Ok(name) => Ok(Fact {
+                name,
+                persistent: f.persistent,
+                args,
+            }),
+        },
     }
 }
 
@@ -81,12 +85,17 @@ pub fn shown_form(alloc: Global, table: &mut Table, env: &Env, f: &Fact) -> Resu
     ensures refused { IfErr result (IsValueFault table.old.sig (map (instance (given table.old.trees env.now)) f.now.args)) }
     ensures keeps { Keeps table.old table.new }
 {
-    let mut facts = FactList::new(alloc);
     match form_of_fact(alloc, table, env, f) {
         Err(fault) => Err(fault),
-        Ok(h) => match facts.push(h) {
-            Err(_) => Err(PFault::Mem),
-            Ok(()) => Ok(facts),
-        },
+        Ok(h) => {
+            let mut facts = FactList::new(alloc);
+            match facts.push(h) {
+                Err(_) => {
+                    drop(facts);
+                    Err(PFault::Mem)
+                }
+                Ok(()) => Ok(facts),
+            }
+        }
     }
 }

@@ -36,11 +36,22 @@ fn match_of(
     requires env { AreBound (length table.now.trees) env.now }
     ensures { IfOk result (IsMatched table.now.trees env.now (tree pattern.now) (tree_at table.now.trees e)) }
 {
-    let mut new = env.copy(alloc)?;
-    if table.fits(alloc, pattern, e, &mut new)? {
-        Ok(Some(new))
-    } else {
-        Ok(None)
+    match env.copy(alloc) {
+        Err(mem) => Err(mem),
+        Ok(mut new) => match table.fits(alloc, pattern, e, &mut new) {
+            Err(mem) => {
+                drop(new);
+                Err(mem)
+            }
+            Ok(fits) => {
+                if fits {
+                    Ok(Some(new))
+                } else {
+                    drop(new);
+                    Ok(None)
+                }
+            }
+        },
     }
 }
 
@@ -124,6 +135,7 @@ pub fn received(
                     Err(fault) => Err(fault),
                     Ok(new) => {
                         if a != j {
+                            drop(new);
                             return Err(PFault::Unequal);
                         }
                         Ok(new)

@@ -112,9 +112,16 @@ fn binding_of(alloc: Global, variable: &[u8], term: &[u8]) -> Result<Option<Bind
 {
     match read_run_variable(alloc, variable)? {
         None => Ok(None),
-        Some(var) => match read_run_term(alloc, term)? {
-            None => Ok(None),
-            Some(term) => Ok(Some(Binding { var, term })),
+        Some(var) => match read_run_term(alloc, term) {
+            Err(mem) => {
+                drop(var);
+                Err(mem)
+            }
+            Ok(None) => {
+                drop(var);
+                Ok(None)
+            }
+            Ok(Some(term)) => Ok(Some(Binding { var, term })),
         },
     }
 }

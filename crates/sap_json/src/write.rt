@@ -14,16 +14,13 @@ use sap_text::Text;
 use std::alloc::Global;
 
 // The object up to the items of its steps.
+#[tactic(auto, unfolding(json::specs::Print::escape_byte))]
 fn push_head(text: &mut Text, kind: &[u8]) -> Result<(), Mem>
     ensures { OnOk result (text.new ≡ text.old ++ head_text kind.now) }
 {
-    text.push_bytes(b"{")?;
-    push_string(text, b"kind")?;
-    text.push_bytes(b":")?;
+    text.push_bytes(b"{\"kind\":")?;
     push_string(text, kind)?;
-    text.push_bytes(b",")?;
-    push_string(text, b"steps")?;
-    text.push_bytes(b":[")
+    text.push_bytes(b",\"steps\":[")
 }
 
 // The items, and the bracket that closes the array.

@@ -32,20 +32,20 @@ pub enum Form {
     Embedded(FactList, FactList, FactList),
 }
 
-// Two terms.
-fn two(alloc: Global, t: &Term, u: &Term) -> Result<(Term, Term), Mem>
-    ensures { IfOk result (λ r. (r.0 ≡ t.now) × (r.1 ≡ u.now)) }
+// Two copies.
+fn two<T: Copied + Drop, U: Copied + Drop>(alloc: Global, x: &T, y: &U) -> Result<(T, U), Mem>
+    ensures { IfOk result (λ r. (r.0 ≡ x.now) × (r.1 ≡ y.now)) }
 {
-    let t = t.copy(alloc)?;
-    Ok((t, u.copy(alloc)?))
-}
-
-// A term and a variable.
-fn term_and_var(alloc: Global, t: &Term, x: &Var) -> Result<(Term, Var), Mem>
-    ensures { IfOk result (λ r. (r.0 ≡ t.now) × (r.1 ≡ x.now)) }
-{
-    let t = t.copy(alloc)?;
-    Ok((t, x.copy(alloc)?))
+    match x.copy(alloc) {
+        Err(mem) => Err(mem),
+        Ok(x) => match y.copy(alloc) {
+            Err(mem) => {
+                drop(x);
+                Err(mem)
+            }
+            Ok(y) => Ok((x, y)),
+        },
+    }
 }
 
 // The three sides of a rule.
@@ -92,7 +92,7 @@ pub fn form_of(alloc: Global, p: &Process) -> Result<Form, Mem>
         }
         Process::Delete(t, _) => Ok(Form::Delete(t.copy(alloc)?)),
         Process::Lookup(t, x, _, _) => {
-            let (t, x) = term_and_var(alloc, t, x)?;
+            let (t, x) = two(alloc, t, x)?;
             Ok(Form::Lookup(t, x))
         }
         Process::Lock(t, n, _) => Ok(Form::Lock(t.copy(alloc)?, *n)),
@@ -100,47 +100,6 @@ pub fn form_of(alloc: Global, p: &Process) -> Result<Form, Mem>
         Process::Embedded(l, e, r, _) => {
             let (l, e, r) = sides(alloc, l, e, r)?;
             Ok(Form::Embedded(l, e, r))
-        }
-    }
-}
-
-impl Copied for Form {
-    fn copy(&self, alloc: Global) -> Result<Form, Mem> {
-        match self {
-            Form::Nil => Ok(Form::Nil),
-            Form::Par => Ok(Form::Par),
-            Form::Rep => Ok(Form::Rep),
-            Form::New(x) => Ok(Form::New(x.copy(alloc)?)),
-            Form::Out(t) => Ok(Form::Out(t.copy(alloc)?)),
-            Form::Send(t, u) => {
-                let (t, u) = two(alloc, t, u)?;
-                Ok(Form::Send(t, u))
-            }
-            Form::In(t) => Ok(Form::In(t.copy(alloc)?)),
-            Form::Recv(t, u) => {
-                let (t, u) = two(alloc, t, u)?;
-                Ok(Form::Recv(t, u))
-            }
-            Form::If(t, u) => {
-                let (t, u) = two(alloc, t, u)?;
-                Ok(Form::If(t, u))
-            }
-            Form::Event(f) => Ok(Form::Event(f.copy(alloc)?)),
-            Form::Insert(t, u) => {
-                let (t, u) = two(alloc, t, u)?;
-                Ok(Form::Insert(t, u))
-            }
-            Form::Delete(t) => Ok(Form::Delete(t.copy(alloc)?)),
-            Form::Lookup(t, x) => {
-                let (t, x) = term_and_var(alloc, t, x)?;
-                Ok(Form::Lookup(t, x))
-            }
-            Form::Lock(t, n) => Ok(Form::Lock(t.copy(alloc)?, *n)),
-            Form::Unlock(t, n) => Ok(Form::Unlock(t.copy(alloc)?, *n)),
-            Form::Embedded(l, e, r) => {
-                let (l, e, r) = sides(alloc, l, e, r)?;
-                Ok(Form::Embedded(l, e, r))
-            }
         }
     }
 }

@@ -5,7 +5,7 @@ ghost use Rattle.sap_lines.specs.Places.{form_proc, with_children, ArePlaces, Ad
 
 use crate::form::{Form, form_of};
 use sap_process::{Children, Process};
-use sap_terms::{Copied, Items, Mem};
+use sap_terms::{Items, Mem};
 use std::alloc::Global;
 
 /// A place of a process: what stands there, and the numbers of the places at which it goes on. Where there is one, it stands
@@ -15,16 +15,6 @@ pub struct Place {
     pub form: Form,
     pub first: u64,
     pub second: u64,
-}
-
-impl Copied for Place {
-    fn copy(&self, alloc: Global) -> Result<Place, Mem> {
-        Ok(Place {
-            form: self.form.copy(alloc)?,
-            first: self.first,
-            second: self.second,
-        })
-    }
 }
 
 /// The places of a process by their numbers, each behind those at which it goes on.

@@ -38,7 +38,10 @@ pub(crate) fn numbers_cited(
     for k in cited {
         match number_at(table, *k) {
             Some(n) => numbers.push(n)?,
-            None => return Ok(None),
+            None => {
+                drop(numbers);
+                return Ok(None);
+            }
         }
     }
     Ok(Some(numbers))

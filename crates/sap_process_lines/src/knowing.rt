@@ -57,10 +57,16 @@ impl Desk {
         ensures { OnOk result (GivesTold (told_apply self.old f.now entries.now) self.new lines.old lines.new) }
     {
         match numbers_cited(alloc, &self.entries, entries.as_slice())? {
-            Some(numbers) => {
-                lines.push(PStep::Apply(f.copy(alloc)?, numbers))?;
-                self.both_know()
-            }
+            Some(numbers) => match f.copy(alloc) {
+                Err(mem) => {
+                    drop(numbers);
+                    Err(mem)
+                }
+                Ok(f) => {
+                    lines.push(PStep::Apply(f, numbers))?;
+                    self.both_know()
+                }
+            },
             None => Ok(()),
         }
     }

@@ -7,6 +7,7 @@ ghost use Rattle.sap_process_lines.specs.Told.{GivesTold, left_if, lines_if, tol
 use crate::cited::{behind_first, count_up, number_cited, numbers_cited};
 use crate::desk::Desk;
 use crate::kind::{Kind, kind_of};
+use sap_input::push_input;
 use sap_runs::{PStep, PSteps};
 use sap_terms::{Bindings, Copied, Mem, Name, Numbers};
 use std::alloc::Global;
@@ -138,8 +139,9 @@ impl Desk {
     {
         match self.pending {
             Some(e) => {
+                push_input(t, e, lines)?;
                 self.pending = None;
-                self.goes(PStep::In(t, e), t, lines)
+                self.comes(t)
             }
             None => Ok(()),
         }
@@ -189,6 +191,20 @@ impl Desk {
         Ok(())
     }
 
+    // Writes a line, before which what is pending is written, where facts are shown.
+    fn settled(&mut self, step: PStep, shows: bool, lines: &mut PSteps) -> Result<(), Mem>
+        ensures lines { OnOk result (lines.new ≡ lines.old ++ (lines_if shows self.old.pending ++ step ∷ [])) }
+        ensures tables { OnOk result (self.new ≡ waiting self.old (left_if shows self.old.pending)) }
+    {
+        match self.settle_if(shows, lines) {
+            Err(mem) => {
+                drop(step);
+                Err(mem)
+            }
+            Ok(()) => lines.push(step),
+        }
+    }
+
     // A rule of the process is used on the facts that are cited behind the first.
     fn embedded(
         &mut self,
@@ -202,16 +218,21 @@ impl Desk {
     ) -> Result<(), Mem>
         ensures { OnOk result (GivesTold (told_embedded self.old t facts.now b.now shows count) self.new lines.old lines.new) }
     {
-        let Some(numbers) = numbers_cited(alloc, &self.facts, behind_first(facts.as_slice()))?
-        else {
-            return Ok(());
-        };
-        let b = b.copy(alloc)?;
         let many = count
             .saturating_sub(self.facts.len() as u64)
             .saturating_sub(1);
-        self.settle_if(shows, lines)?;
-        lines.push(PStep::Embedded(t, numbers, b))?;
-        self.pile(t, many)
+        match numbers_cited(alloc, &self.facts, behind_first(facts.as_slice()))? {
+            None => Ok(()),
+            Some(numbers) => match b.copy(alloc) {
+                Err(mem) => {
+                    drop(numbers);
+                    Err(mem)
+                }
+                Ok(b) => {
+                    self.settled(PStep::Embedded(t, numbers, b), shows, lines)?;
+                    self.pile(t, many)
+                }
+            },
+        }
     }
 }

@@ -1,4 +1,5 @@
 -- What the code does, step by step: no public contract cites what stands below.
+pub mod Kinds
 pub mod Taking
 pub mod TermTaking
 pub mod WordTaking

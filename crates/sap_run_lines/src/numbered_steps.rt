@@ -1,6 +1,7 @@
 //! The steps with a first word and numbers alone behind it.
 ghost use Rattle.std.specs.Prelude.{◌≡◌};
 ghost use Rattle.sap_run_lines.specs.NumberedSteps.{process_one, process_two, rule_one};
+ghost use Rattle.sap_run_lines.specs.code.StepTaking.{later_one};
 
 use crate::take_steps::is;
 use sap_runs::{PStep, RStep};
@@ -23,7 +24,16 @@ pub fn process_one(word: &[u8], t: u64) -> Option<PStep>
         Some(PStep::Else(t))
     } else if is(word, b"event") {
         Some(PStep::Event(t))
-    } else if is(word, b"insert") {
+    } else {
+        later_one(word, t)
+    }
+}
+
+// The step with such a word, where it is one of the last seven.
+fn later_one(word: &[u8], t: u64) -> Option<PStep>
+    ensures { result ≡ later_one word.now t }
+{
+    if is(word, b"insert") {
         Some(PStep::Insert(t))
     } else if is(word, b"delete") {
         Some(PStep::Delete(t))

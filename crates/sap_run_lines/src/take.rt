@@ -1,9 +1,8 @@
 //! Names, numbers and contents, taken from the left of bytes.
 ghost use Rattle.std.specs.Prelude.{◌≡◌, ◌≤◌, length, take, drop};
 ghost use Rattle.std.specs.List.{prefix_len};
-ghost use Rattle.std.specs.Char.{is_ascii_digit};
-ghost use Rattle.sap_text.specs.Tokens.{is_word, is_content};
 ghost use Rattle.sap_run_lines.specs.code.Taking.{starts, starts_letter, identifier_at, is_run_name, name_at, with_digit, with_digits, only_zero, number_of, number_at, content_at, Finds};
+ghost use Rattle.sap_run_lines.specs.code.Kinds.{is_of};
 
 use sap_grammar::is_grammar_word;
 use sap_terms::{MOST_FILE_NAME_BYTES, MOST_THEORY_NAME_BYTES};
@@ -45,34 +44,29 @@ fn first(n: usize, bytes: &[u8]) -> &[u8]
     if n < bytes.len() { &bytes[..n] } else { bytes }
 }
 
-fn is_word_byte(b: u8) -> bool
-    ensures { result ≡ is_word b }
-{
-    b.is_ascii_alphabetic() || b.is_ascii_digit() || b == b'_'
+// Which bytes are counted.
+#[derive(Clone, Copy)]
+enum Kind {
+    Word,
+    Digit,
+    Content,
 }
 
-fn is_content_byte(b: u8) -> bool
-    ensures { result ≡ is_content b }
+fn is_of(kind: Kind, b: u8) -> bool
+    ensures { result ≡ is_of kind b }
 {
-    b >= 32 && b <= 126 && b != b'\''
+    match kind {
+        Kind::Word => b.is_ascii_alphabetic() || b.is_ascii_digit() || b == b'_',
+        Kind::Digit => b.is_ascii_digit(),
+        Kind::Content => b >= 32 && b <= 126 && b != b'\'',
+    }
 }
 
-fn word_len(bytes: &[u8]) -> usize
-    ensures { result ≡ prefix_len is_word bytes.now }
+// How many bytes of this kind stand first.
+fn len_of(kind: Kind, bytes: &[u8]) -> usize
+    ensures { result ≡ prefix_len (is_of kind) bytes.now }
 {
-    bytes.iter().take_while(|b| is_word_byte(**b)).count()
-}
-
-fn digits_len(bytes: &[u8]) -> usize
-    ensures { result ≡ prefix_len is_ascii_digit bytes.now }
-{
-    bytes.iter().take_while(|b| b.is_ascii_digit()).count()
-}
-
-fn content_len(bytes: &[u8]) -> usize
-    ensures { result ≡ prefix_len is_content bytes.now }
-{
-    bytes.iter().take_while(|b| is_content_byte(**b)).count()
+    bytes.iter().take_while(|b| is_of(kind, **b)).count()
 }
 
 /// The identifier that stands first, and the bytes behind it.
@@ -81,7 +75,7 @@ pub(crate) fn identifier_at(bytes: &[u8]) -> Option<(&[u8], &[u8])>
     ensures { Finds (λ x. x.now) result (identifier_at bytes.now) }
 {
     if starts_letter(bytes) {
-        let n = word_len(bytes);
+        let n = len_of(Kind::Word, bytes);
         Some((first(n, bytes), behind(n, bytes)))
     } else {
         None
@@ -154,7 +148,7 @@ fn number_of(digits: &[u8]) -> Option<u64>
 pub(crate) fn number_at(bytes: &[u8]) -> Option<(u64, &[u8])>
     ensures { Finds (λ n. n) result (number_at bytes.now) }
 {
-    let n = digits_len(bytes);
+    let n = len_of(Kind::Digit, bytes);
     let number = number_of(first(n, bytes))?;
     Some((number, behind(n, bytes)))
 }
@@ -164,7 +158,7 @@ pub(crate) fn number_at(bytes: &[u8]) -> Option<(u64, &[u8])>
 pub(crate) fn content_at(bytes: &[u8]) -> Option<(&[u8], &[u8])>
     ensures { Finds (λ x. x.now) result (content_at bytes.now) }
 {
-    let n = content_len(bytes);
+    let n = len_of(Kind::Content, bytes);
     let rest = behind(n, bytes);
     if n as u64 <= MOST_FILE_NAME_BYTES && starts(b'\'', rest) {
         Some((first(n, bytes), behind(1, rest)))

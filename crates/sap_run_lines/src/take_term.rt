@@ -10,21 +10,47 @@ use crate::take::{behind, content_at, name_at, number_at, starts};
 use sap_terms::{MOST_TERM_NODES, Mem, Name, Term, TermList};
 use std::alloc::Global;
 
+// The terms, and one more behind them.
+fn with(terms: TermList, term: Term) -> Result<TermList, Mem>
+    ensures { IfOk result (λ ts. ts ≡ terms ++ tree term ∷ []) }
+{
+    let mut terms = terms;
+    terms.push(term)?;
+    Ok(terms)
+}
+
 fn two(alloc: Global, left: Term, right: Term) -> Result<TermList, Mem>
     ensures { IfOk result (λ ts. ts ≡ tree left ∷ tree right ∷ []) }
 {
-    let mut parts = TermList::new(alloc);
-    parts.push(left)?;
-    parts.push(right)?;
-    Ok(parts)
+    match with(TermList::new(alloc), left) {
+        Err(mem) => {
+            drop(right);
+            Err(mem)
+        }
+        Ok(parts) => with(parts, right),
+    }
+}
+
+// The symbol on the terms.
+fn on_terms(alloc: Global, symbol: &[u8], terms: TermList) -> Result<Term, Mem>
+    ensures { IfOk result (λ t. tree t ≡ apply symbol.now (trees_of terms)) }
+{
+    match Name::from_bytes(alloc, symbol) {
+        Err(mem) => {
+            drop(terms);
+            Err(mem)
+        }
+        Ok(name) => Ok(Term::App(name, terms)),
+    }
 }
 
 fn pair(alloc: Global, left: Term, right: Term) -> Result<Term, Mem>
     ensures { IfOk result (λ t. tree t ≡ pair (tree left) (tree right)) }
 {
-    let name = Name::from_bytes(alloc, b"pair")?;
-    let parts = two(alloc, left, right)?;
-    Ok(Term::App(name, parts))
+    match two(alloc, left, right) {
+        Err(mem) => Err(mem),
+        Ok(parts) => on_terms(alloc, b"pair", parts),
+    }
 }
 
 #[tactic(auto, unfolding(crate::specs::code::Taking::after))]
@@ -33,10 +59,10 @@ fn take_public<'a>(alloc: Global, bytes: &'a [u8]) -> Result<Option<(Term, &'a [
 {
     match content_at(bytes) {
         None => Ok(None),
-        Some((content, rest)) => {
-            let name = Name::from_bytes(alloc, content)?;
-            Ok(Some((Term::Public(name), rest)))
-        }
+        Some((content, rest)) => match Name::from_bytes(alloc, content) {
+            Err(mem) => Err(mem),
+            Ok(name) => Ok(Some((Term::Public(name), rest))),
+        },
     }
 }
 
@@ -73,10 +99,10 @@ fn take_paired<'a>(
             drop(left);
             Ok(None)
         }
-        Ok(Some((right, end))) => {
-            let both = pair(alloc, left, right)?;
-            Ok(Some((both, end)))
-        }
+        Ok(Some((right, end))) => match pair(alloc, left, right) {
+            Err(mem) => Err(mem),
+            Ok(both) => Ok(Some((both, end))),
+        },
     }
 }
 
@@ -134,6 +160,7 @@ fn take_listed<'a>(
     } else if starts(b',', bytes) {
         take_terms(alloc, calls, before, behind(1, bytes))
     } else {
+        drop(before);
         Ok(None)
     }
 }
@@ -149,15 +176,22 @@ fn take_terms<'a>(
     ensures { Takes (λ ts. ts) result (terms calls before bytes.now) }
 {
     if calls == 0 {
+        drop(before);
         return Ok(None);
     }
-    match take_term(alloc, calls - 1, bytes)? {
-        None => Ok(None),
-        Some((term, next)) => {
-            let mut terms = before;
-            terms.push(term)?;
-            take_listed(alloc, calls - 1, terms, next)
+    match take_term(alloc, calls - 1, bytes) {
+        Err(mem) => {
+            drop(before);
+            Err(mem)
         }
+        Ok(None) => {
+            drop(before);
+            Ok(None)
+        }
+        Ok(Some((term, next))) => match with(before, term) {
+            Err(mem) => Err(mem),
+            Ok(terms) => take_listed(alloc, calls - 1, terms, next),
+        },
     }
 }
 
@@ -172,15 +206,18 @@ fn take_applied<'a>(
     ensures { Takes tree result (applied (terms calls) name.now bytes.now) }
 {
     if !starts(b'(', bytes) {
-        let name = Name::from_bytes(alloc, name)?;
-        return Ok(Some((Term::App(name, TermList::new(alloc)), bytes)));
+        return match on_terms(alloc, name, TermList::new(alloc)) {
+            Err(mem) => Err(mem),
+            Ok(term) => Ok(Some((term, bytes))),
+        };
     }
-    match take_terms(alloc, calls, TermList::new(alloc), behind(1, bytes))? {
-        None => Ok(None),
-        Some((terms, rest)) => {
-            let name = Name::from_bytes(alloc, name)?;
-            Ok(Some((Term::App(name, terms), rest)))
-        }
+    match take_terms(alloc, calls, TermList::new(alloc), behind(1, bytes)) {
+        Err(mem) => Err(mem),
+        Ok(None) => Ok(None),
+        Ok(Some((terms, rest))) => match on_terms(alloc, name, terms) {
+            Err(mem) => Err(mem),
+            Ok(term) => Ok(Some((term, rest))),
+        },
     }
 }
 

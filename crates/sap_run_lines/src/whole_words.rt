@@ -90,15 +90,13 @@ fn behind_sign(bytes: &[u8]) -> &[u8]
 fn variable_alone(alloc: Global, bytes: &[u8]) -> Result<Option<Var>, Mem>
     ensures { IfOk result (λ o. o ≡ variable_alone bytes.now) }
 {
+    let sort = sort_first(bytes);
     match name_alone(behind_sign(bytes)) {
         None => Ok(None),
-        Some(name) => {
-            let name = Name::from_bytes(alloc, name)?;
-            Ok(Some(Var {
-                name,
-                sort: sort_first(bytes),
-            }))
-        }
+        Some(name) => match Name::from_bytes(alloc, name) {
+            Err(mem) => Err(mem),
+            Ok(name) => Ok(Some(Var { name, sort })),
+        },
     }
 }
 

@@ -142,6 +142,18 @@ fresh_of ws = given (only ws) as_fresh
 abbrev pub number_of : List LineWord → Option ℕ
 number_of ws = given (only ws) as_number
 
+-- the step of a process with this word, one of the last seven that have one number, and this number
+abbrev pub later_one : List ℕ → ℕ → Option PStep
+later_one x t =
+    if bytes_eq x (codes "insert") then Some (step.Insert t)
+    else if bytes_eq x (codes "delete") then Some (step.Delete t)
+    else if bytes_eq x (codes "found") then Some (step.Found t)
+    else if bytes_eq x (codes "missing") then Some (step.Missing t)
+    else if bytes_eq x (codes "lock") then Some (step.Lock t)
+    else if bytes_eq x (codes "unlock") then Some (step.Unlock t)
+    else if bytes_eq x (codes "know") then Some (step.Know t)
+    else None
+
 -- with this number, and a second one if it stands behind
 abbrev pub process_behind : List ℕ → ℕ → List LineWord → Option PStep
 process_behind x t [] = process_one x t

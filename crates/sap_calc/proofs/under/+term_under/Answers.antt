@@ -7,4 +7,4 @@ use Rattle.sap_calc.proofs.under.+term_under.Goals as goal
 
 pub terms_under-loop-k-preserved : goal.terms_under-loop-k-preserved
 terms_under-loop-k-preserved t c =
-    rw (c.in_ok-push.ensures.ok, c.loop-k.invariant, c.in_ok-term_under.ensures, map_got (instance (given c.args.table.now.trees c.args.env.now)) c.args.ts.now c.loop-k.k (tree c.at.result.now) c.at.ensures.got) refl
+    rw (c.in_ok-push-in-Ok.ensures.ok, c.loop-k.invariant, c.in-Ok.ensures, map_got (instance (given c.args.table.now.trees c.args.env.now)) c.args.ts.now c.loop-k.k (tree c.at.result.now) c.at.ensures.got) refl

@@ -1,5 +1,4 @@
 use Rattle.std.proofs.Common.{◌≡◌, ◌<◌, ◌-◌, ℕ, true, false, List, [], ◌∷◌, ◌++◌, drop, Some, None, refl, arith}
-use Rattle.std.proofs.lemmas.Grind.{common_steps}
 use Rattle.sap_terms.specs.Tree.{Tree}
 use Rattle.sap_terms.specs.View.{tree}
 use Rattle.sap_run_lines.specs.code.Taking.{after, starts}
@@ -90,14 +89,13 @@ take_rest-returns-else-starts t c =
 pub take_terms-returns-then-calls-eq0 : goal.take_terms-returns-then-calls-eq0
 take_terms-returns-then-calls-eq0 t c = rw c.if-calls-eq0.true (terms_zero _ _)
 
-pub take_terms-returns-in-None : goal.take_terms-returns-in-None
-take_terms-returns-in-None t c =
+pub take_terms-returns-in-Ok-None : goal.take_terms-returns-in-Ok-None
+take_terms-returns-in-Ok-None t c =
     let more : 0 < c.args.calls = omega arith in
-    terms_nothing _ _ more _ (rw c.in-None.is at c.in_ok-take_term.ensures)
+    terms_nothing _ _ more _ (rw c.in-Ok-None.field-0-is at c.in-Ok-None.ensures)
 
-pub take_terms-returns-in_ok-push-in-Some : goal.take_terms-returns-in_ok-push-in-Some
-take_terms-returns-in_ok-push-in-Some t c =
+pub take_terms-returns-in-Ok : goal.take_terms-returns-in-Ok
+take_terms-returns-in-Ok t c =
     let more : 0 < c.args.calls = omega arith in
-    let taken : term (c.args.calls - 1) c.args.bytes.now ≡ Some (tree c.in-Some.term, c.in-Some.next.now) = rw c.in-Some.is at c.in_ok-take_term.ensures in
-    let pushed : c.push.new.self ≡ c.args.before ++ (tree c.in-Some.term ∷ []) = grind (arith, common_steps) in
-    rw (terms_go_on _ _ more _ _ taken c.args.before, ← pushed) c.take_listed.ensures
+    let taken : term (c.args.calls - 1) c.args.bytes.now ≡ Some (tree c.in-Ok-Some.term, c.in-Ok-Some.next.now) = rw c.in-Ok-Some.field-0-is at c.in-Ok-Some.ensures in
+    rw (terms_go_on _ _ more _ _ taken c.args.before, ← c.in-Ok.ensures) c.take_listed.ensures
