@@ -1,12 +1,15 @@
 -- What reading formulas does at each depth and at each turn.
-use Rattle.std.proofs.Common.{◌≡◌, ◌≤◌, ◌<◌, ◌-◌, ℕ, zero, suc, List, drop, Some, None, true, false, refl, sym, ap, ◌∙◌, arith}
-use Rattle.std.specs.Prelude.{codes, if◌then◌else◌}
+use Rattle.std.proofs.Common.{◌≡◌, ◌≤◌, ◌<◌, ◌-◌, ◌+◌, max, ℕ, zero, suc, List, drop, Option, Some, None, true, false, refl, sym, ap, ◌∙◌, arith}
+use Rattle.std.specs.Prelude.{codes, if◌then◌else◌, nat_le, Result, Ok, Err, IfOk, IfSome}
+use Rattle.std.specs.Borrow.{Bor}
+use Rattle.sap_text.specs.declared.token.Token.{Token}
 use Rattle.sap_terms.specs.Signature.{Sig}
 use Rattle.sap_formula.specs.Form.{Form, implies, negation, every, exists}
 use Rattle.sap_grammar.specs.declared.limits.Limits.{Limits}
 use Rattle.sap_grammar.specs.Words.{Word, starts}
 use Rattle.sap_grammar.specs.Reading.{Read, Reader, after}
-use Rattle.sap_formula_grammar.specs.FormulaReading.{Levelled, atom, un, imp, un_at, imp_at, ors, formula, bodied, quantified, enclosed, alone, second, turns}
+use Rattle.sap_formula_grammar.specs.FormulaReading.{Levelled, atom, un, imp, un_at, imp_at, ors, formula, bodied, quantified, enclosed, alone, second, turns, last}
+use Rattle.sap_formula_grammar.specs.declared.formula.build.Measured.{Measured}
 
 pub un_zero : (g : Sig) (m : Limits) (ws : List Word) → un g m 0 ws ≡ None
 unfolding un imp
@@ -85,3 +88,33 @@ module _ (part : Reader Levelled) (d : ℕ) (made : Form → Form → Form) (sig
     pub turn_ends : second part d made f next ≡ None → turns part d made sign n f ws ≡ None
     unfolding after
     turn_ends got = goes n lt ∙ ap (λ (o : Read Levelled). after o (turns part d made sign (n - 1))) (ap (second part d made f) (sym is) ∙ got)
+
+-- one part, or two with `<=>` between them
+pub iff_two : (g : Sig) (m : Limits) (d : ℕ) (ws : List Word) (f : Levelled) (r next : List Word) → imp g m d ws ≡ Some (f, r) → starts (codes "<=>") r ≡ true → next ≡ drop 1 r
+    → formula g m d ws ≡ last (imp g m d) d f next
+unfolding after
+iff_two g m d ws f r next e s n = rw (e, s, n) refl
+
+-- both sides, where they have together so many levels at most, and where they have more
+module _ (part : Reader Levelled) (d : ℕ) (made : Form → Form → Form) (f h : Levelled) (ws r : List Word) (e : part ws ≡ Some (h, r)) where
+  pub second_fits : nat_le (max f.1 h.1 + 1) d ≡ true → second part d made f ws ≡ Some ((made f.0 h.0, max f.1 h.1 + 1), r)
+  unfolding after
+  second_fits le = rw (e, le) refl
+
+  pub second_over : nat_le (max f.1 h.1 + 1) d ≡ false → second part d made f ws ≡ None
+  unfolding after
+  second_over over = rw (e, over) refl
+
+-- what is read has some levels, and no more than these
+module _ {E : Type 0} (b : ℕ) where
+  pub within_more : (a : ℕ) (r : Result (Option (Measured × Bor (List Token))) E) → a ≤ b
+      → IfOk r (λ o. IfSome o (λ p. (1 ≤ p.0.levels) × (p.0.levels ≤ a))) → IfOk r (λ o. IfSome o (λ p. (1 ≤ p.0.levels) × (p.0.levels ≤ b)))
+  within_more a (Ok None) le h = tt
+  within_more a (Ok (Some p)) le h = (h.0, omega (arith, le, h.1))
+  within_more a (Err x) le h = tt
+
+  pub within_one : (r : Result (Option (Measured × Bor (List Token))) E) → 1 ≤ b
+      → IfOk r (λ o. IfSome o (λ p. p.0.levels ≡ 1)) → IfOk r (λ o. IfSome o (λ p. (1 ≤ p.0.levels) × (p.0.levels ≤ b)))
+  within_one (Ok None) le h = tt
+  within_one (Ok (Some p)) le h = (omega (arith, h), omega (arith, le, h))
+  within_one (Err x) le h = tt

@@ -4,3 +4,4 @@ pub mod Ends
 pub mod Formulas
 pub mod SoundFormulas
 pub mod FormulaPlaces
+pub mod AtomSteps

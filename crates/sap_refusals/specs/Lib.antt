@@ -3,3 +3,4 @@ pub mod Refusals
 pub mod TheoryRefusals
 pub mod RunFaultTexts
 pub mod ShortFaultTexts
+pub mod code

@@ -6,6 +6,7 @@ mod file_lines;
 mod run_fault_text;
 mod short_lines;
 mod theory_lines;
+mod words;
 
 pub use file_lines::{file_line, long_file_line};
 pub use run_fault_text::{broken_line, json_line, no_run_line, process_line, rule_line};

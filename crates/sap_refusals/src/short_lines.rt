@@ -1,13 +1,15 @@
 //! The lines that refuse short runs.
 
-ghost use Rattle.std.specs.Prelude.{◌≡◌, ◌++◌, IfOk, OnOk};
+ghost use Rattle.std.specs.Prelude.{◌≡◌, IfOk, IfSome};
 ghost use Rattle.sap_intruder.specs.declared.fill_fault.FillFault.TheVariants as fill_faults;
 ghost use Rattle.sap_lines.specs.declared.fault.PFault.TheVariants as process_faults;
 ghost use Rattle.sap_run_texts.specs.declared.run_fault.RunFault.TheVariants as text_faults;
 ghost use Rattle.sap_refusals.specs.RunFaultTexts.{at_step, run_refused_line};
 ghost use Rattle.sap_refusals.specs.ShortFaultTexts.{fill_fault_text, short_fault_text};
+ghost use Rattle.sap_refusals.specs.code.Words.{words_text};
 
-use crate::run_fault_text::{no_run_line, push_process_fault, step_line};
+use crate::run_fault_text::{no_run_line, process_words, step_line};
+use crate::words::Words;
 use sap_intruder::FillFault;
 use sap_outside::RunRefusal;
 use sap_run_texts::RunFault;
@@ -39,20 +41,20 @@ pub fn fill_line(alloc: Global, step: u64, fault: &FillFault) -> Result<Text, Me
     ensures { IfOk result (λ line. (fault.now ≡ fill_faults.Process process_faults.Mem → ⊥)
         × (line ≡ run_refused_line (at_step step (fill_fault_text fault.now)))) }
 {
-    let mut line = step_line(alloc, step)?;
-    push_fill_fault(&mut line, fault)?;
-    line.push_bytes(b"\n")?;
-    Ok(line)
+    match fill_words(fault) {
+        None => Err(Mem),
+        Some(words) => step_line(alloc, step, &words),
+    }
 }
 
-// Puts last why a step of a short run is refused. Want of memory is no such cause.
-fn push_fill_fault(text: &mut Text, fault: &FillFault) -> Result<(), Mem>
-    ensures cause { OnOk result (fault.now ≡ fill_faults.Process process_faults.Mem → ⊥) }
-    ensures text { OnOk result (text.new ≡ text.old ++ fill_fault_text fault.now) }
+// Why a step of a short run is refused. Want of memory is no such cause.
+fn fill_words<'a>(fault: &'a FillFault) -> Option<Words<'a>>
+    ensures { IfSome result (λ words. (fault.now ≡ fill_faults.Process process_faults.Mem → ⊥)
+        × (words_text words ≡ fill_fault_text fault.now)) }
 {
     match fault {
-        FillFault::Process(fault) => push_process_fault(text, fault),
-        FillFault::BadTerm => text.push_bytes(b"bad term"),
-        FillFault::NotDeduced => text.push_bytes(b"term cannot be deduced"),
+        FillFault::Process(fault) => process_words(fault),
+        FillFault::BadTerm => Some(Words::Plain(b"bad term")),
+        FillFault::NotDeduced => Some(Words::Plain(b"term cannot be deduced")),
     }
 }

@@ -1,11 +1,14 @@
 //! The lines that refuse theories.
 
-ghost use Rattle.std.specs.Prelude.{◌≡◌, ◌++◌, codes, IfOk, OnOk};
+ghost use Rattle.std.specs.Prelude.{◌≡◌, codes, IfOk, IfSome};
 ghost use Rattle.sap_theory.specs.declared.fault.TheoryFault.TheVariants as faults;
 ghost use Rattle.sap_refusals.specs.Refusals.{refused_line};
 ghost use Rattle.sap_refusals.specs.TheoryRefusals.{theory_fault_text};
+ghost use Rattle.sap_refusals.specs.code.Words.{words_text};
 
-use crate::fault_text::{push_lex, push_named, push_numbered, push_of_formula};
+use crate::fault_text::lex_words;
+use crate::file_lines::line_of;
+use crate::words::{Words, begun};
 use sap_terms::Mem;
 use sap_text::Text;
 use sap_theory::TheoryFault;
@@ -15,46 +18,41 @@ use std::alloc::Global;
 pub fn long_theory_line(alloc: Global) -> Result<Text, Mem>
     ensures { IfOk result (λ line. line ≡ refused_line (codes "longer than 16777216 bytes")) }
 {
-    let mut line = Text::new(alloc);
-    line.push_bytes(b"file refused: longer than 16777216 bytes\n")?;
-    Ok(line)
+    begun(alloc, b"file refused: longer than 16777216 bytes\n")
 }
 
 /// The line that refuses a theory for this fault. Want of memory refuses none, and so has no line.
 pub fn theory_line(alloc: Global, fault: &TheoryFault) -> Result<Text, Mem>
     ensures { IfOk result (λ line. (fault.now ≡ faults.Mem → ⊥) × (line ≡ refused_line (theory_fault_text fault.now))) }
 {
-    let mut line = Text::new(alloc);
-    line.push_bytes(b"file refused: ")?;
-    push_theory_fault(&mut line, fault)?;
-    line.push_bytes(b"\n")?;
-    Ok(line)
+    match theory_words(fault) {
+        None => Err(Mem),
+        Some(words) => line_of(alloc, &words),
+    }
 }
 
-// Puts last why bytes are read as no theory. Want of memory is no such cause.
-fn push_theory_fault(text: &mut Text, fault: &TheoryFault) -> Result<(), Mem>
-    ensures cause { OnOk result (fault.now ≡ faults.Mem → ⊥) }
-    ensures text { OnOk result (text.new ≡ text.old ++ theory_fault_text fault.now) }
+// Why bytes are read as no theory. Want of memory is no such cause.
+fn theory_words<'a>(fault: &'a TheoryFault) -> Option<Words<'a>>
+    ensures { IfSome result (λ words. (fault.now ≡ faults.Mem → ⊥)
+        × (words_text words ≡ theory_fault_text fault.now)) }
 {
     match fault {
-        TheoryFault::Mem => Err(Mem),
-        TheoryFault::Lex(fault) => push_lex(text, *fault, b" is longer than 400 bytes"),
-        TheoryFault::Header => text.push_bytes(b"no theory header"),
-        TheoryFault::Syntax { line } => push_numbered(
-            text,
+        TheoryFault::Mem => None,
+        TheoryFault::Lex(fault) => Some(lex_words(*fault, b" is longer than 400 bytes")),
+        TheoryFault::Header => Some(Words::Plain(b"no theory header")),
+        TheoryFault::Syntax { line } => Some(Words::Numbered(
             b"line ",
             *line,
             b": not in the grammar",
-        ),
-        TheoryFault::DuplicateName { name } => push_named(text, b"name ", name, b" stands twice"),
-        TheoryFault::FunctionClash { name } => push_named(
-            text,
+        )),
+        TheoryFault::DuplicateName { name } => Some(Words::Named(b"name ", name, b" stands twice")),
+        TheoryFault::FunctionClash { name } => Some(Words::Named(
             b"function ",
             name,
             b" is declared otherwise",
-        ),
-        TheoryFault::BadFunction { name } => push_named(text, b"rule ", name, b": bad function"),
-        TheoryFault::BadRule { name } => push_named(text, b"rule ", name, b": bad rule"),
-        TheoryFault::Formula { name, fault } => push_of_formula(text, name, fault),
+        )),
+        TheoryFault::BadFunction { name } => Some(Words::Named(b"rule ", name, b": bad function")),
+        TheoryFault::BadRule { name } => Some(Words::Named(b"rule ", name, b": bad rule")),
+        TheoryFault::Formula { name, fault } => Some(Words::Formula(name, fault)),
     }
 }

@@ -1,12 +1,13 @@
 //! Formulas without parts.
-ghost use Rattle.std.specs.Prelude.{ℕ, List, Some};
+ghost use Rattle.std.specs.Prelude.{ℕ, List, Some, codes};
 ghost use Rattle.sap_terms.specs.Tree.{Tree};
 ghost use Rattle.sap_terms.specs.View.{tree};
 ghost use Rattle.sap_formula.specs.Form.{action, equal};
 ghost use Rattle.sap_formula.specs.View.{form};
 ghost use Rattle.sap_grammar.specs.Words.{words_of};
-ghost use Rattle.sap_grammar.specs.Reading.{Gives, Read, after, name_at};
-ghost use Rattle.sap_formula_grammar.specs.FormulaReading.{time, at_time, placed, equated, equation, later, same, timed, plainly, named, atom};
+ghost use Rattle.sap_grammar.specs.TermReading.{short_term};
+ghost use Rattle.sap_grammar.specs.Reading.{Gives, Read, after, name_at, past};
+ghost use Rattle.sap_formula_grammar.specs.FormulaReading.{time, placed, equation, later, same, timed, plainly, named, atom};
 
 use crate::formula::build::same;
 use sap_formula::Formula;
@@ -32,6 +33,21 @@ fn read_time<'a>(
     }
 }
 
+#[tactic(auto, using(sap_grammar::proofs::ReadingLaws::Tokens::word_steps), unfolding(sap_grammar::specs::Reading::past))]
+fn read_when<'a>(
+    alloc: Global,
+    bytes: &[u8],
+    tokens: &'a [Token],
+) -> Result<Option<(Name, &'a [Token])>, Mem>
+    ensures { Gives bytes.now (λ i. i) result (past (codes "@") (words_of bytes.now tokens.now) time) }
+{
+    if starts(bytes, tokens, "@") {
+        read_time(alloc, bytes, beyond(1, tokens))
+    } else {
+        Ok(None)
+    }
+}
+
 // A fact at the time that was read behind it.
 #[tactic(auto, unfolding(sap_grammar::specs::Reading::after))]
 fn at<'a>(
@@ -43,25 +59,16 @@ fn at<'a>(
         → Gives bytes (λ f. form f.value) result (after read (λ i z. Some (action fact i, z))) }
 {
     match time {
-        Err(mem) => Err(mem),
-        Ok(None) => Ok(None),
         Ok(Some((time, rest))) => Ok(Some((boxed(alloc, Formula::Action(fact, time))?, rest))),
+        Ok(None) => {
+            drop(fact);
+            Ok(None)
+        }
+        Err(mem) => {
+            drop(fact);
+            Err(mem)
+        }
     }
-}
-
-#[tactic(auto, using(sap_grammar::proofs::ReadingLaws::Tokens::word_steps), unfolding(sap_grammar::specs::Reading::after, sap_grammar::specs::Reading::past))]
-fn read_at_time<'a>(
-    alloc: Global,
-    bytes: &[u8],
-    fact: Fact,
-    tokens: &'a [Token],
-) -> Result<Option<(Box<Formula>, &'a [Token])>, Mem>
-    ensures { Gives bytes.now (λ f. form f.value) result (at_time fact (words_of bytes.now tokens.now)) }
-{
-    if !starts(bytes, tokens, "@") {
-        return Ok(None);
-    }
-    at(alloc, fact, read_time(alloc, bytes, beyond(1, tokens)))
 }
 
 #[tactic(auto, unfolding(sap_grammar::specs::Reading::after))]
@@ -77,7 +84,25 @@ fn read_placed<'a>(
 {
     match read_short_fact(alloc, sig, limits, bytes, false, tokens)? {
         None => Ok(None),
-        Some((fact, rest)) => read_at_time(alloc, bytes, fact, rest),
+        Some((fact, rest)) => at(alloc, fact, read_when(alloc, bytes, rest)),
+    }
+}
+
+#[tactic(auto, using(sap_grammar::proofs::ReadingLaws::Tokens::word_steps), unfolding(sap_grammar::specs::Reading::past))]
+fn read_right<'a>(
+    alloc: Global,
+    sig: &Signature,
+    limits: Limits,
+    bytes: &[u8],
+    tokens: &'a [Token],
+) -> Result<Option<(Term, &'a [Token])>, Mem>
+    ensures { Gives bytes.now tree result (past (codes "=") (words_of bytes.now tokens.now)
+        (short_term sig.now limits)) }
+{
+    if starts(bytes, tokens, "=") {
+        read_short_term(alloc, sig, limits, bytes, beyond(1, tokens))
+    } else {
+        Ok(None)
     }
 }
 
@@ -92,32 +117,16 @@ fn equal<'a>(
         → Gives bytes (λ f. form f.value) result (after read (λ u z. Some (equal (tree left) u, z))) }
 {
     match right {
-        Err(mem) => Err(mem),
-        Ok(None) => Ok(None),
         Ok(Some((right, rest))) => Ok(Some((boxed(alloc, Formula::Equal(left, right))?, rest))),
+        Ok(None) => {
+            drop(left);
+            Ok(None)
+        }
+        Err(mem) => {
+            drop(left);
+            Err(mem)
+        }
     }
-}
-
-#[tactic(auto, using(sap_grammar::proofs::ReadingLaws::Tokens::word_steps), unfolding(sap_grammar::specs::Reading::after, sap_grammar::specs::Reading::past))]
-fn read_equated<'a>(
-    alloc: Global,
-    sig: &Signature,
-    limits: Limits,
-    bytes: &[u8],
-    left: Term,
-    tokens: &'a [Token],
-) -> Result<Option<(Box<Formula>, &'a [Token])>, Mem>
-    ensures { Gives bytes.now (λ f. form f.value) result (equated sig.now limits (tree left)
-        (words_of bytes.now tokens.now)) }
-{
-    if !starts(bytes, tokens, "=") {
-        return Ok(None);
-    }
-    equal(
-        alloc,
-        left,
-        read_short_term(alloc, sig, limits, bytes, beyond(1, tokens)),
-    )
 }
 
 #[tactic(auto, unfolding(sap_grammar::specs::Reading::after))]
@@ -133,7 +142,7 @@ fn read_equation<'a>(
 {
     match read_short_term(alloc, sig, limits, bytes, tokens)? {
         None => Ok(None),
-        Some((left, rest)) => read_equated(alloc, sig, limits, bytes, left, rest),
+        Some((left, rest)) => equal(alloc, left, read_right(alloc, sig, limits, bytes, rest)),
     }
 }
 

@@ -1,7 +1,9 @@
-use Rattle.std.proofs.Common.{sym, ap, ◌∙◌, arith}
+use Rattle.std.proofs.Common.{◌-◌, ◌+◌, List, Some, sym, subst, ap, ◌∙◌, arith}
 use Rattle.sap_grammar.specs.Words.{words_of}
+use Rattle.sap_grammar.specs.Reading.{Gives, Read}
+use Rattle.sap_formula_grammar.specs.FormulaReading.{Levelled}
 use Rattle.sap_formula_grammar.specs.code.FormulaView.{levelled, made, operand, sign_of}
-use Rattle.sap_formula_grammar.proofs.FormulaSteps.{un_zero, un_negation, un_every, un_exists, un_enclosed, un_alone, imp_zero, imp_none, imp_one, imp_two, turn_none, turn_stops, turn_on, turn_ends}
+use Rattle.sap_formula_grammar.proofs.FormulaSteps.{un_zero, un_negation, un_every, un_exists, un_enclosed, un_alone, imp_zero, imp_none, imp_one, imp_two, turn_none, turn_stops, turn_on, turn_ends, iff_two, second_fits, second_over, within_more, within_one}
 use Rattle.sap_grammar.proofs.ReadingLaws.Tokens.{words-drop}
 use Rattle.sap_formula_grammar.proofs.formula.grammar.+read.Goals.{read_turns-then-loop-turns-test+else-goes_on, read_turns-else-loop-turns-test}
 use Rattle.sap_formula_grammar.proofs.formula.grammar.+read.Goals as goal
@@ -75,3 +77,37 @@ pub read_imp-returns-else-goes_on-clause-gives : goal.read_imp-returns-else-goes
 read_imp-returns-else-goes_on-clause-gives t c =
     let b = c.args.bytes.now in
     imp_one c.args.sig.now c.args.limits c.args.depth (omega arith) (words_of b c.args.tokens.now) (levelled c.in-Some.left) (words_of b c.in-Some.rest.now) (rw c.in-Some.is at c.in_ok-read_chain.ensures.gives) (sym c.goes_on.ensures ∙ c.if-goes_on.false)
+
+pub read_un-returns-then-starts-clause-within : goal.read_un-returns-then-starts-clause-within
+read_un-returns-then-starts-clause-within t c = within_more c.args.depth (c.args.depth - 1 + 1) _ (omega arith) c.read_negation.ensures.within
+
+pub read_un-returns-then-starts-2-clause-within : goal.read_un-returns-then-starts-2-clause-within
+read_un-returns-then-starts-2-clause-within t c = within_more c.args.depth (c.args.depth - 1 + 1) _ (omega arith) c.read_quantified.ensures.within
+
+pub read_un-returns-then-starts-3-clause-within : goal.read_un-returns-then-starts-3-clause-within
+read_un-returns-then-starts-3-clause-within t c = within_more c.args.depth (c.args.depth - 1 + 1) _ (omega arith) c.read_quantified-then-starts-3.ensures.within
+
+pub read_un-returns-then-starts-4-clause-within : goal.read_un-returns-then-starts-4-clause-within
+read_un-returns-then-starts-4-clause-within t c = within_more c.args.depth (c.args.depth - 1 + 1) _ (omega arith) c.read_enclosed.ensures.within
+
+pub read_un-returns-else-starts-4-clause-within : goal.read_un-returns-else-starts-4-clause-within
+read_un-returns-else-starts-4-clause-within t c = within_one c.args.depth _ (omega arith) c.read_alone.ensures.within
+
+pub read_operand-returns-in-Imp-clause-within : goal.read_operand-returns-in-Imp-clause-within
+read_operand-returns-in-Imp-clause-within t c = within_more c.args.depth (c.args.depth - 1) _ (omega arith) c.read_imp.ensures.within
+
+pub read_iff-returns-then-goes_on-clause-gives : goal.read_iff-returns-then-goes_on-clause-gives
+read_iff-returns-then-goes_on-clause-gives t c =
+    let b = c.args.bytes.now in
+    subst (λ (o : Read Levelled). Gives b levelled c.read_last.result o) (sym (iff_two c.args.sig.now c.args.limits c.args.depth (words_of b c.args.tokens.now) (levelled c.in-Some.left) (words_of b c.in-Some.rest.now) (words_of b c.beyond.result.now) (rw c.in-Some.is at c.in_ok-read_imp.ensures.gives) (sym c.goes_on.ensures ∙ c.if-goes_on.true) (ap (words_of b) c.beyond.ensures ∙ words-drop b 1 c.in-Some.rest.now))) c.read_last.ensures.gives
+
+pub read_second-returns-in_ok-both-in-Some-clause-gives : goal.read_second-returns-in_ok-both-in-Some-clause-gives
+read_second-returns-in_ok-both-in-Some-clause-gives t c =
+    let b = c.args.bytes.now in
+    second_fits (operand c.args.sig.now c.args.limits c.args.depth c.args.connective) c.args.depth (made c.args.connective) (levelled c.args.left) (levelled c.in-Some.right) (words_of b c.args.tokens.now) (words_of b c.in-Some.rest.now) (rw c.in-Some.is at c.in_ok-read_operand.ensures.gives) (sym c.fits.ensures ∙ c.if-fits.true)
+    ∙ ap (λ (x : Levelled). Some (x, words_of b c.in-Some.rest.now)) (sym c.in_ok-both-in-Some.ensures)
+
+pub read_second-returns-else-fits-clause-gives : goal.read_second-returns-else-fits-clause-gives
+read_second-returns-else-fits-clause-gives t c =
+    let b = c.args.bytes.now in
+    second_over (operand c.args.sig.now c.args.limits c.args.depth c.args.connective) c.args.depth (made c.args.connective) (levelled c.args.left) (levelled c.in-Some.right) (words_of b c.args.tokens.now) (words_of b c.in-Some.rest.now) (rw c.in-Some.is at c.in_ok-read_operand.ensures.gives) (sym c.fits.ensures ∙ c.if-fits.false)

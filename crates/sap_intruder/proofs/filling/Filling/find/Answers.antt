@@ -1,5 +1,8 @@
-use Rattle.std.proofs.Common.{◌≡◌, ◌+◌, refl, rules, length, subst, Option, IfSome}
+use Rattle.std.proofs.Common.{◌≡◌, ◌+◌, refl, rules, length, subst, sym, Option, IfSome}
+use Rattle.sap_terms.specs.Message.{IsMessage}
+use Rattle.sap_terms.specs.Signature.{Sig}
 use Rattle.sap_terms.specs.View.{tree}
+use Rattle.sap_terms.specs.declared.var.Sort.TheVariants.{Msg}
 use Rattle.sap_derive.specs.Found.{IsFoundIn}
 use Rattle.sap_derive.specs.declared.derivation.Derivation.{Derivation}
 use Rattle.sap_intruder.specs.declared.filling.Filling.{Filling}
@@ -28,3 +31,6 @@ carry_out-requires c =
     let is : IsFoundIn a.search (tree c.args.goal.now) found c.find.new.self =
     subst (λ (o : Option Derivation). IfSome o (λ (x : Derivation). IsFoundIn a.search (tree c.args.goal.now) x c.find.new.self)) c.in-Some.is c.in_ok-found.ensures.some in
     found_leads a b (tree c.args.goal.now) found c.find.new.self c.requires.tied is refl
+
+pub find-requires-clause-message : goal.find-requires-clause-message
+find-requires-clause-message c = subst (λ (g : Sig). IsMessage g Msg (tree c.args.goal.now)) (sym c.requires.tied.sig) c.requires.message

@@ -1,5 +1,7 @@
 use Rattle.std.proofs.Common.{◌≡◌, true, subst, sym, arith, Option, IfNone, ℕ}
-use Rattle.sap_terms.specs.Message.{IsOver}
+use Rattle.std.proofs.lemmas.Result.{err_from_is_err_and}
+use Rattle.sap_terms.specs.Message.{IsMessage, IsOver}
+use Rattle.sap_terms.specs.declared.var.Sort.TheVariants.{Msg}
 use Rattle.sap_terms.specs.Equations.{equations}
 use Rattle.sap_terms.specs.Signature.{Sig}
 use Rattle.sap_terms.specs.View.{tree}
@@ -31,3 +33,13 @@ returns-in-None-clause-refused c =
     let never : ¬ CanGive c.args.self.now.config.sig c0 x = subst (λ (o : Option ℕ). IfNone o (¬ CanGive c.args.self.now.config.sig c0 x)) c.in-None.is c.in_ok-find.ensures.none in
     subst (λ (g : Sig). IsNotGiven g c0 c.args.u.now fill.NotDeduced) (sym c.requires.sig)
     (not_deduced (c.is_over.ensures.over.0 yes) c.in_ok-x.ensures (subst (λ (g : Sig). ¬ CanGive g c0 x) c.requires.sig never))
+
+pub returns-in_err-x-clause-refused : goal.returns-in_err-x-clause-refused
+returns-in_err-x-clause-refused c = let p = err_from_is_err_and c.from_residual.result c.from_residual.ensures.1 in rw (p.1, p.2) tt
+
+pub find-requires-clause-message : goal.find-requires-clause-message
+find-requires-clause-message c =
+    let x = tree c.in_ok-x.x in
+    let yes : c.is_over.result ≡ true = (let no = c.if-not-is_over.false in cc) in
+    subst (λ (g : Sig). IsMessage g Msg x) (sym c.requires.sig)
+    (c.forms_are_messages.ensures c.args.sig.now (tree c.args.u.now) x c.requires.builtins c.requires.ground (c.is_over.ensures.over.0 yes) c.in_ok-x.ensures)

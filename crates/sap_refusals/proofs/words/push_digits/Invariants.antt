@@ -1,6 +1,6 @@
 use Rattle.std.proofs.Common.{◌≡◌, ◌++◌, drop, decimal}
 use Rattle.std.specs.List.{flat_map}
-use Rattle.sap_refusals.proofs.fault_text.push_digits.Given as goal
+use Rattle.sap_refusals.proofs.words.push_digits.Given as goal
 
 abbrev pub invariant-loop-digit : goal.invariant-loop-digit
 invariant-loop-digit l = l.text ++ flat_map decimal (drop l.digit-index l.digits) ≡ l.initial.text ++ flat_map decimal l.digits
