@@ -1,1 +1,4 @@
 pub mod Plain
+pub mod OneReach
+pub mod Found
+pub mod Meant

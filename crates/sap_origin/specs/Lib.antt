@@ -1,1 +1,3 @@
 pub mod Definitions
+pub mod Meant
+pub mod Reached

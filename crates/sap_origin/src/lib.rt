@@ -3,4 +3,4 @@
 
 mod laws;
 
-pub use laws::located_definitions_are_written;
+pub use laws::{expansions_are_meant, located_definitions_are_written, one_written_place};
