@@ -152,11 +152,13 @@ module _ (ds : List LocatedDefinition) where
         more : (f : List ℕ) (t : Bool) → is_known known f ≡ true → (t || is_known known f) ≡ true
         more f true holds = refl
         more f false holds = holds
+
         next : (f : List ℕ) (t : Bool) → bytes_eq d.name f ≡ t → (bytes_eq d.name f || is_known known f) ≡ false → definition_of ds f ≡ definition_of es f
         next f true e fails = let never : true ≡ false = rw e at fails in absurd (cc (never))
         next f false e fails =
             let unknown : is_known known f ≡ false = rw e at fails in
             found f unknown ∙ rw e refl
+
         either : (f : List ℕ) (t : Bool) → bytes_eq d.name f ≡ t → (bytes_eq d.name f || is_known (defined (map plain_definition es)) f) ≡ true
             → (names : List (List ℕ)) → ((g : List ℕ) → (bytes_eq d.name g || is_known known g) ≡ true → is_known names g ≡ true)
             → ((g : List ℕ) → is_known (defined (map plain_definition es)) g ≡ true → is_known names g ≡ true) → is_known names f ≡ true
