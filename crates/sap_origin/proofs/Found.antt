@@ -1,7 +1,6 @@
 -- To each place of a process that is meant one comes by a written place, which means it, and to nothing else.
 use Rattle.std.proofs.Common.{◌≡◌, ℕ, zero, suc, List, [], ◌∷◌, Option, Some, None, refl, sym, ◌∙◌, subst}
 use Rattle.sap_process.specs.Proc.{Proc}
-use Rattle.sap_process.specs.Places.{child, first_child, second_child}
 use Rattle.sap_macro.specs.Located.{Located, call_at}
 use Rattle.sap_terms.specs.Tree.{Tree}
 use Rattle.sap_origin.specs.Definitions.{LocatedDefinition}

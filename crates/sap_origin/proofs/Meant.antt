@@ -1,5 +1,5 @@
 -- What is written means its expansion.
-use Rattle.std.proofs.Common.{◌≡◌, ℕ, Bool, true, false, List, [], ◌∷◌, Option, Some, None, map, refl, sym, ap, subst, ◌∙◌}
+use Rattle.std.proofs.Common.{◌≡◌, ℕ, Bool, true, false, List, [], ◌∷◌, Option, Some, map, refl, sym, ap, subst, ◌∙◌}
 use Rattle.std.specs.Prelude.{◌||◌, Contains, if◌then◌else◌}
 use Rattle.std.specs.Str.{bytes_eq}
 use Rattle.std.proofs.lemmas.Slice.Eq.{bytes_eq-Decides}
@@ -7,7 +7,6 @@ use Rattle.sap_terms.specs.Choice.{Choice, instance}
 use Rattle.sap_terms.specs.Tree.{Tree}
 use Rattle.sap_terms.specs.Variables.{is_known}
 use Rattle.sap_terms.proofs.PlainLaws.Items.{first_item, later_item}
-use Rattle.sap_process.specs.Proc.{Proc}
 use Rattle.sap_macro.specs.Expansion.{Meaning, Plain, by_names, entered, expanded, expansion, meaning_after, meaning_of, no_meaning, own_names, plain, plain_after, plain_bodies, put, same_name, unchanged, where_none, with_definition, with_plain_body, with_uses}
 use Rattle.sap_macro.specs.Indexed.{defined}
 use Rattle.sap_macro.specs.Located.{Located, nil_at, call_at, parallel_at, replicated_at, act_at, test_at, lookup_at, without_numbers}

@@ -1,9 +1,7 @@
 -- Definitions with the words of their places are, without these, what is written.
-use Rattle.std.proofs.Common.{◌≡◌, ℕ, List, [], ◌∷◌, length, map, refl, ap, sym, ◌∙◌, arith}
+use Rattle.std.proofs.Common.{◌≡◌, ℕ, List, [], ◌∷◌, length, map, refl, arith}
 use Rattle.sap_macro.specs.Located.{without_numbers}
-use Rattle.sap_macro.specs.Sources.{definitions, definition_of, located, written}
-use Rattle.sap_macro.specs.Written as plain
-use Rattle.sap_macro.specs.Written.{Written}
+use Rattle.sap_macro.specs.Sources.{definitions, located, written}
 use Rattle.sap_macro.specs.declared.definition.Definition.{Definition}
 use Rattle.sap_macro.specs.declared.source.Source.{Source}
 use Rattle.sap_origin.specs.Definitions.{located_definitions, plain_definition}

@@ -65,21 +65,6 @@ number_of (act_at k a p) = k
 number_of (test_at k t u p q) = k
 number_of (lookup_at k t x p q) = k
 
--- a place of a file: how many of its words are left from the one that tells the place, and from the name of each use by which one came
--- there, the innermost first
-pub record Origin : Type 0 where
-  pub word : ℕ
-  pub uses : List ℕ
-
--- what one comes to along this path from a process behind whose item so many words of the file are
-pub record IsOrigin (ds : List LocatedDefinition) (p : Located) (behind : ℕ) (path : List ℕ) (o : Origin)
-    : Type 0 where
-  pub standing : Standing
-  pub place : Located
-  pub reaches : Reaches ds (record { behind = behind; uses = [] }) p path standing place
-  pub word_is : o.word ≡ number_of place + standing.behind
-  pub uses_are : o.uses ≡ standing.uses
-
 -- the process to which these digits lead
 abbrev pub process_below : Option Proc → List ℕ → Option Proc
 process_below None path = None

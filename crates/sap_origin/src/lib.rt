@@ -2,5 +2,7 @@
 #![tactic(auto)]
 
 mod laws;
+mod origin;
 
 pub use laws::{expansions_are_meant, located_definitions_are_written, one_written_place};
+pub use origin::{FileWord, Origin, origin_of};
