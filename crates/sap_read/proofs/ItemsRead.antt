@@ -64,7 +64,7 @@ not_end (item_process r) = refl
 not_end (item_statement (is_restriction r)) = refl
 not_end (item_statement (is_lemma a d r)) = refl
 
-never_end : {A : Type 0} (g : Sig) (i : List Placed) (v : Item) → IsEnd i → IsItem g v (words i) → A
+pub never_end : {A : Type 0} (g : Sig) (i : List Placed) (v : Item) → IsEnd i → IsItem g v (words i) → A
 never_end g i v e s =
     let no : true ≡ false = not_end (subst (λ (w : List Word). IsItem g v w) e s) in
     absurd (cc)

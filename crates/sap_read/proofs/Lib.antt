@@ -8,9 +8,11 @@ pub mod Labelled
 pub mod Caused
 pub mod Checked
 pub mod ItemsRead
+pub mod LocatedItems
 pub mod ItemTurns
 pub mod OneFile
 pub mod SomeFile
+pub mod WrittenFiles
 pub mod Sizes
 pub mod Small
 pub mod Unrefused

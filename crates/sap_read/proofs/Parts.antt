@@ -15,7 +15,7 @@ use Rattle.sap_grammar.specs.Signatures.{clash_from, signature_from}
 use Rattle.sap_read.specs.Files.{AreTokens, IsParted, IsRead, no_item, refused, unexpanded, ill, locked, unchecked, accepted}
 use Rattle.sap_grammar.specs.ItemReading.{cut, declared_in_all}
 use Rattle.sap_grammar.specs.ItemReading.{header_of}
-use Rattle.sap_read.specs.code.Judged.{AreAccepted, IsAccepted, IsFlawed, IsMislocked, IsRefused, IsRefusedCut}
+use Rattle.sap_read.specs.code.Judged.{IsAccepted, IsFlawed, IsMislocked, IsRefused, IsRefusedCut}
 use Rattle.sap_grammar.specs.ItemLaws.{ItemLaws}
 use Rattle.sap_grammar.proofs.ReadingLaws.Items.{cut_is}
 use Rattle.sap_read.proofs.ItemsRead.{declared_are}
@@ -47,7 +47,7 @@ abbrev pub names_in : List ℕ → List Token → List (List ℕ)
 names_in z ts = identifiers_of (words_of z ts)
 
 -- items under their own signature that are refused
-own_refused : {z : List ℕ} {ts : List Token} {x : List ℕ} {cut : List (List Placed)} (is : List Standing) (e : ReadFault) → IsParted z ts x cut → AreItems (signature_of is) cut is
+pub own_refused : {z : List ℕ} {ts : List Token} {x : List ℕ} {cut : List (List Placed)} (is : List Standing) (e : ReadFault) → IsParted z ts x cut → AreItems (signature_of is) cut is
     → IsRefused (signature_of is) (clash_from pairs_alone (declarations is)) (names_in z ts) (bodies is) (statements is) e → IsRead z (Err e)
 own_refused is e p i (inl (inl (inl first))) = refused p i first
 own_refused {z = z} is e p i (inl (inl (inr m))) = subst (λ (q : ReadFault). IsRead z (Err q)) (sym m.is) (unexpanded p i m.nothing m.unexpanded)
@@ -72,21 +72,9 @@ is_refused laws z ts x g clash e t h d (inr r) =
     (subst (λ (o : Option (List ℕ)). IsRefused g o names (bodies is) (statements is) e) told.1 r.refused))
 
 -- items under their own signature that are accepted
-own_accepted : {z : List ℕ} {ts : List Token} {x : List ℕ} {cut : List (List Placed)} (is : List Standing) (q : Proc) (rs : List RestrictionForm) (ls : List LemmaForm) → IsParted z ts x cut
+pub own_accepted : {z : List ℕ} {ts : List Token} {x : List ℕ} {cut : List (List Placed)} (is : List Standing) (q : Proc) (rs : List RestrictionForm) (ls : List LemmaForm) → IsParted z ts x cut
     → AreItems (signature_of is) cut is → IsAccepted (signature_of is) (clash_from pairs_alone (declarations is)) (names_in z ts) (bodies is) (statements is) q rs ls
     → IsRead z (Ok (record { name = x; signature = signature_of is; process = q; restrictions = rs; lemmas = ls }))
 own_accepted is q rs ls p i a =
     let b = a.annotated in
     rw (a.checked.restrictions, a.checked.lemmas) (accepted p i b.whole.nothing b.whole.expanded b.sound.well_formed b.sound.annotation a.checked.faultless)
-
-pub is_accepted : ItemLaws → (z : List ℕ) (ts : List Token) (x : List ℕ) (g : Sig) (clash : Option (List ℕ)) (q : Proc) (rs : List RestrictionForm) (ls : List LemmaForm) → AreTokens z ts
-    → header_of (words_of z ts) ≡ Some x → IsDeclared z ts g clash → AreAccepted g clash (names_in z ts) (items_of z ts) q rs ls
-    → IsRead z (Ok (record { name = x; signature = g; process = q; restrictions = rs; lemmas = ls }))
-is_accepted laws z ts x g clash q rs ls t h d a =
-    let is = a.standing in
-    let names = names_in z ts in
-    let told = d g (items_of z ts) is (items_are_cut laws z ts) a.items in
-    subst (λ (s : Sig). IsRead z (Ok (record { name = x; signature = s; process = q; restrictions = rs; lemmas = ls }))) (sym told.0)
-    (own_accepted is q rs ls (parted laws z ts x t h) (subst (λ (s : Sig). AreItems s (items_of z ts) is) told.0 a.items)
-    (subst (λ (s : Sig). IsAccepted s (clash_from pairs_alone (declarations is)) names (bodies is) (statements is) q rs ls) told.0
-    (subst (λ (o : Option (List ℕ)). IsAccepted g o names (bodies is) (statements is) q rs ls) told.1 a.accepted)))

@@ -18,10 +18,12 @@ pub use Rattle.sap_statements.specs.Statements
 pub use Rattle.sap_statements.specs.Stated
 pub mod Item
 pub mod ItemGrammar
+pub mod LocatedItems
 pub mod Identifiers
 pub mod FileProcess
 pub mod Causes
 pub mod Files
+pub mod WrittenFiles
 pub mod Occurring
 pub mod HeldVariables
 pub mod AsWritten

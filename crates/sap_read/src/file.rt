@@ -1,12 +1,15 @@
 //! Files, and the one that some bytes tell.
-ghost use Rattle.std.specs.Prelude.{◌≡◌, ◌≤◌, ◌<◌, ◌^◌, ℕ, List, [], Ok, Err, map, IfOk, IsErrOf};
+ghost use Rattle.std.specs.Prelude.{◌≡◌, ◌≤◌, ◌<◌, ◌^◌, ℕ, List, [], Option, Ok, Err, IfOk, IsErrOf};
+ghost use Rattle.sap_terms.specs.Signature.{Sig};
 ghost use Rattle.sap_text.specs.Tokens.{IsLexed};
 ghost use Rattle.sap_text.specs.declared.fault.Lex.{Lex};
-ghost use Rattle.sap_grammar.specs.Cut.{Placed, placed, IsCut};
-ghost use Rattle.sap_read.specs.code.Judged.{AreAccepted, AreChecked, IsAccepted, IsAnnotated, IsFirstUnchecked, IsFlawed, IsRefused, IsRefusedAs, IsRefusedCut, IsSound, IsUnsound};
-ghost use Rattle.sap_read.specs.Identifiers.{identifiers_of};
-ghost use Rattle.sap_grammar.specs.Words.{words_of};
-ghost use Rattle.sap_read.specs.code.Bodies.{body};
+ghost use Rattle.sap_macro.specs.Order.{AreInOrder};
+ghost use Rattle.sap_macro.specs.Sources.{definitions};
+ghost use Rattle.sap_statements.specs.declared.statement.Statement.{Statement};
+ghost use Rattle.sap_read.specs.Item.{Body};
+ghost use Rattle.sap_read.specs.code.Judged.{AreChecked, IsAccepted, IsAnnotated, IsFirstUnchecked, IsFlawed, IsRefused, IsRefusedAs, IsRefusedBefore, IsSound, IsUnsound, IsWhole};
+ghost use Rattle.sap_read.specs.code.Parting.{AreParts};
+ghost use Rattle.sap_read.specs.WrittenFiles.{IsWrittenFile};
 ghost use Rattle.sap_process.specs.Proc.{node_count, proc};
 ghost use Rattle.sap_locks.specs.Annotation.{IsAnnotation, IsFirstLockFlaw, LockFlaw};
 ghost use Rattle.sap_process.specs.Flaws.{IsWellFormed};
@@ -16,13 +19,11 @@ ghost use Rattle.sap_read.specs.Files.{AreTokens, IsRead, told_by};
 ghost use Rattle.sap_read.specs.declared.fault.ReadFault.{ReadFault};
 ghost use Rattle.sap_read.specs.declared.fault.ReadFault.TheVariants.{Mem as OutOfMemory, Lex as LexFault};
 
-use crate::entry::Entry;
 use crate::fault::ReadFault;
-use crate::identifiers::identifiers;
-use crate::items::{Contents, read_items};
 use crate::whole::whole_process;
+use crate::written::{FileProcesses, WrittenFile, written_file};
 use sap_formula::{LemmaList, RestrictionList};
-use sap_grammar::{Declared, beyond, header_name, item_laws, last_line, read_declarations};
+use sap_grammar::Declared;
 use sap_locks::annotate_boxed;
 use sap_process::{Process, well_formed_boxed};
 use sap_statements::{Checked, Statement, check_statements};
@@ -105,27 +106,33 @@ pub fn read_file_boxed(alloc: Global, bytes: &[u8]) -> Result<Box<File>, ReadFau
         → IsRead bytes.now (Err e) }
 {
     let tokens = read_tokens(alloc, bytes)?;
-    read_parts(alloc, bytes, tokens.as_slice())
+    let written = written_file(alloc, bytes, tokens.as_slice())?;
+    judge_file(alloc, written)
 }
 
-/// The file of these tokens of the bytes. What items declare is read first, in a pass of its own, since an identifier in a
-/// term is a constant where any item, also a later one, declares it so.
-fn read_parts(alloc: Global, bytes: &[u8], tokens: &[Token]) -> Result<Box<File>, ReadFault>
-    requires { AreTokens bytes.now tokens.now }
-    ensures accepted { IfOk result (λ f. IsRead bytes.now (Ok (told_by f.value))) }
-    ensures refused { (e : ReadFault) → IsErrOf result e → (e ≡ OutOfMemory → ⊥)
-        → IsRead bytes.now (Err e) }
+/// The file that is written so, or why it is refused: its processes are expanded and let go of before anything is judged.
+fn judge_file(alloc: Global, written: WrittenFile) -> Result<Box<File>, ReadFault>
+    requires { AreInOrder [] (definitions written.processes.definitions) }
+    ensures accepted { (z : List ℕ) → IsWrittenFile z written
+        → IfOk result (λ f. IsRead z (Ok (told_by f.value))) }
+    ensures refused { (z : List ℕ) (e : ReadFault) → IsWrittenFile z written → IsErrOf result e
+        → (e ≡ OutOfMemory → ⊥) → IsRead z (Err e) }
 {
-    item_laws();
-    let Some(name) = header_name(bytes, tokens) else {
-        return Err(ReadFault::Header);
-    };
-    let title = Name::from_bytes(alloc, name)?;
-    let rest = beyond(3, tokens);
-    let declared = read_declarations(alloc, bytes, rest)?;
-    let names = identifiers(alloc, bytes, tokens)?;
-    let content = read_content(alloc, &declared, &names, bytes, rest, last_line(tokens))?;
-    Ok(file_of(alloc, title, declared, content)?)
+    let WrittenFile {
+        name,
+        declared,
+        identifiers,
+        processes,
+        statements,
+    } = written;
+    let content = judge_contents(
+        alloc,
+        &declared.signature,
+        processes,
+        &identifiers,
+        &statements,
+    )?;
+    Ok(file_of(alloc, name, declared, content)?)
 }
 
 /// The file of this name with what was declared and these parts.
@@ -180,49 +187,25 @@ struct Content {
     checked: Checked,
 }
 
-/// The parts of the items that these tokens are, under what they declare; or why they are refused. The last line is that of
-/// the file's last token.
-fn read_content(
-    alloc: Global,
-    declared: &Declared,
-    names: &NameList,
-    bytes: &[u8],
-    tokens: &[Token],
-    last: u64,
-) -> Result<Content, ReadFault>
-    ensures accepted { IfOk result (λ c. (cut : List (List Placed))
-        → IsCut (placed bytes.now tokens.now) cut
-        → AreAccepted declared.now.signature declared.now.clash names.now cut (proc c.process.value)
-        c.checked.restrictions c.checked.lemmas) }
-    ensures refused { (e : ReadFault) → IsErrOf result e → (e ≡ OutOfMemory → ⊥)
-        → (cut : List (List Placed)) → IsCut (placed bytes.now tokens.now) cut
-        → IsRefusedCut declared.now.signature declared.now.clash names.now last cut e }
-{
-    let contents = read_items(alloc, &declared.signature, bytes, tokens, last)?;
-    let Contents {
-        entries,
-        statements,
-    } = contents;
-    judge_contents(alloc, declared, names, entries, &statements)
-}
-
-/// The parts of what the items say, or why they are refused: their process comes before their formulas.
+/// The parts of what is written, or why it is refused: the process comes before the formulas.
 fn judge_contents(
     alloc: Global,
-    declared: &Declared,
-    names: &NameList,
-    entries: Items<Entry>,
+    sig: &Signature,
+    processes: FileProcesses,
+    identifiers: &NameList,
     statements: &Items<Statement>,
 ) -> Result<Content, ReadFault>
-    ensures accepted { IfOk result (λ c. IsAccepted declared.now.signature declared.now.clash names.now
-        (map body entries) statements.now (proc c.process.value)
-        c.checked.restrictions c.checked.lemmas) }
-    ensures refused { (e : ReadFault) → IsErrOf result e → (e ≡ OutOfMemory → ⊥)
-        → IsRefused declared.now.signature declared.now.clash names.now (map body entries)
-        statements.now e }
+    requires { AreInOrder [] (definitions processes.definitions) }
+    ensures accepted { (bs : List Body) (clash : Option (List ℕ))
+        → AreParts bs statements.now clash processes
+        → IfOk result (λ c. IsAccepted sig.now clash identifiers.now bs statements.now
+        (proc c.process.value) c.checked.restrictions c.checked.lemmas) }
+    ensures refused { (bs : List Body) (clash : Option (List ℕ)) (e : ReadFault)
+        → AreParts bs statements.now clash processes → IsErrOf result e → (e ≡ OutOfMemory → ⊥)
+        → IsRefused sig.now clash identifiers.now bs statements.now e }
 {
-    let process = process_of(alloc, declared, names, entries, statements)?;
-    let checked = check_formulas(alloc, &declared.signature, statements)?;
+    let process = process_of(alloc, sig, processes, identifiers)?;
+    let checked = check_formulas(alloc, sig, statements)?;
     Ok(Content { process, checked })
 }
 
@@ -240,22 +223,41 @@ fn check_formulas(
     Ok(check_statements(alloc, sig, statements, true)?)
 }
 
-/// The process of what the items say, with its sorts and labels; or why it is refused.
+/// The process of a file, expanded, or why it can't be; what is written is let go of.
+fn expanded_process(
+    alloc: Global,
+    processes: FileProcesses,
+    identifiers: &NameList,
+) -> Result<Box<Process>, ReadFault>
+    requires { AreInOrder [] (definitions processes.definitions) }
+    ensures accepted { (g : Sig) (bs : List Body) (ss : List Statement) (clash : Option (List ℕ))
+        → AreParts bs ss clash processes
+        → IfOk result (λ p. IsWhole g clash identifiers.now bs ss (proc p.value)) }
+    ensures small { IfOk result (λ p. node_count (proc p.value) ≤ MOST_PROCESS_PLACES) }
+    ensures refused { (g : Sig) (bs : List Body) (ss : List Statement) (clash : Option (List ℕ))
+        (e : ReadFault) → AreParts bs ss clash processes → IsErrOf result e
+        → (e ≡ OutOfMemory → ⊥) → IsRefusedBefore g clash bs ss e }
+{
+    whole_process(alloc, &processes, identifiers)
+}
+
+/// The process of what is written, with its sorts and labels; or why it is refused.
 fn process_of(
     alloc: Global,
-    declared: &Declared,
-    names: &NameList,
-    entries: Items<Entry>,
-    statements: &Items<Statement>,
+    sig: &Signature,
+    processes: FileProcesses,
+    identifiers: &NameList,
 ) -> Result<Box<Process>, ReadFault>
-    ensures accepted { IfOk result (λ p. IsAnnotated declared.now.signature declared.now.clash names.now
-        (map body entries) statements.now (proc p.value)) }
-    ensures refused { (e : ReadFault) → IsErrOf result e → (e ≡ OutOfMemory → ⊥)
-        → IsRefusedAs declared.now.signature declared.now.clash names.now (map body entries)
-        statements.now e }
+    requires { AreInOrder [] (definitions processes.definitions) }
+    ensures accepted { (bs : List Body) (ss : List Statement) (clash : Option (List ℕ))
+        → AreParts bs ss clash processes
+        → IfOk result (λ p. IsAnnotated sig.now clash identifiers.now bs ss (proc p.value)) }
+    ensures refused { (bs : List Body) (ss : List Statement) (clash : Option (List ℕ)) (e : ReadFault)
+        → AreParts bs ss clash processes → IsErrOf result e → (e ≡ OutOfMemory → ⊥)
+        → IsRefusedAs sig.now clash identifiers.now bs ss e }
 {
-    let process = whole_process(alloc, entries, statements, &declared.clash, names)?;
-    judge(alloc, &declared.signature, &process)
+    let process = expanded_process(alloc, processes, identifiers)?;
+    judge(alloc, sig, &process)
 }
 
 /// The process with its sorts and labels, where it is well-formed and can be annotated.

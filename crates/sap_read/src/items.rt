@@ -10,7 +10,7 @@ ghost use Rattle.sap_read.specs.declared.fault.ReadFault.TheVariants.{Mem as Out
 use crate::entry::Entry;
 use crate::fault::ReadFault;
 use crate::parameters::read_head;
-use sap_draft::{FILE_LIMITS, read_process};
+use sap_draft::{FILE_LIMITS, located_processes, read_process};
 use sap_grammar::{
     beyond, is_declaration, is_last, item_laws, line_of, name_at, split_item, starts,
 };
@@ -19,16 +19,18 @@ use sap_terms::{Items, Mem, Name, NameList, Signature};
 use sap_text::Token;
 use std::alloc::Global;
 
-// What a `let` item says of a process.
+// What a `let` item says of a process; behind it are so many words of the file.
 fn read_definition(
     alloc: Global,
     sig: &Signature,
     bytes: &[u8],
     item: &[Token],
+    behind: usize,
 ) -> Result<Option<Entry>, Mem>
     requires { starts (codes "let") (words_of bytes.now item.now) ≡ true }
-    ensures { SaysProcess sig.now bytes.now item.now result }
+    ensures { SaysProcess sig.now bytes.now item.now behind result }
 {
+    located_processes();
     let Some(name) = name_at(bytes, beyond(1, item)) else {
         return Ok(None);
     };
@@ -43,20 +45,23 @@ fn read_definition(
             params,
             source,
             line: line_of(item),
+            behind,
         })),
     }
 }
 
-// What a `process` item says of a process.
+// What a `process` item says of a process; behind it are so many words of the file.
 fn read_main(
     alloc: Global,
     sig: &Signature,
     bytes: &[u8],
     item: &[Token],
+    behind: usize,
 ) -> Result<Option<Entry>, Mem>
     requires { starts (codes "process") (words_of bytes.now item.now) ≡ true }
-    ensures { SaysProcess sig.now bytes.now item.now result }
+    ensures { SaysProcess sig.now bytes.now item.now behind result }
 {
+    located_processes();
     if !starts(bytes, beyond(1, item), ":") {
         return Ok(None);
     }
@@ -67,6 +72,7 @@ fn read_main(
             params: NameList::new(alloc),
             source,
             line: line_of(item),
+            behind,
         })),
     }
 }
@@ -90,17 +96,18 @@ fn read_item(
     sig: &Signature,
     bytes: &[u8],
     item: &[Token],
+    behind: usize,
     entries: &mut Items<Entry>,
     statements: &mut Items<Statement>,
 ) -> Result<bool, Mem>
-    ensures { IfOk result (λ b. IsAdded sig.now bytes.now item.now entries.old entries.new
-        statements.old statements.new b) }
+    ensures { IfOk result (λ b. IsAdded sig.now bytes.now item.now behind entries.old
+        entries.new statements.old statements.new b) }
 {
     item_laws();
     if starts(bytes, item, "let") {
-        push(entries, read_definition(alloc, sig, bytes, item)?)
+        push(entries, read_definition(alloc, sig, bytes, item, behind)?)
     } else if starts(bytes, item, "process") {
-        push(entries, read_main(alloc, sig, bytes, item)?)
+        push(entries, read_main(alloc, sig, bytes, item, behind)?)
     } else if is_declaration(alloc, bytes, item)? {
         Ok(true)
     } else {
@@ -144,7 +151,15 @@ pub(crate) fn read_items(
                 statements,
             });
         }
-        if !read_item(alloc, sig, bytes, item, &mut entries, &mut statements)? {
+        if !read_item(
+            alloc,
+            sig,
+            bytes,
+            item,
+            behind.len(),
+            &mut entries,
+            &mut statements,
+        )? {
             return Err(ReadFault::Syntax {
                 line: line_of(item),
             });

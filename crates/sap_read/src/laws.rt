@@ -1,5 +1,5 @@
 //! Laws of files, as contracts of functions that do nothing but call those below.
-ghost use Rattle.std.specs.Prelude.{◌≡◌, ◌↔◌, ◌⊎◌, ◌≤◌, ◌^◌, ℕ, List, [], None, Some, Result, Ok, Err, length};
+ghost use Rattle.std.specs.Prelude.{◌≡◌, ◌↔◌, ◌⊎◌, ◌≤◌, ◌^◌, ℕ, List, [], None, Some, Result, Ok, Err, length, map};
 ghost use Rattle.sap_terms.specs.declared.fact.Fact.{Fact};
 ghost use Rattle.sap_terms.specs.Tree.{Tree, level_count};
 ghost use Rattle.sap_text.specs.declared.token.Token.{Token};
@@ -30,6 +30,7 @@ ghost use Rattle.sap_read.specs.HeldVariables.{AreClosedBodies, HasClosedUses, H
 ghost use Rattle.sap_read.specs.Identifiers.{identifiers_of};
 ghost use Rattle.sap_read.specs.Item.{Body, Standing, bodies, signature_of};
 ghost use Rattle.sap_read.specs.Files.{FileContent, IsParted, IsRead, IsRunnable};
+ghost use Rattle.sap_read.specs.LocatedItems.{located_bodies, plain_body};
 ghost use Rattle.sap_read.specs.PlainFiles.{ArePlain};
 ghost use Rattle.sap_read.specs.Printable.{IsPrintableFile};
 ghost use Rattle.sap_uses.specs.FaultCauses.{Holds};
@@ -45,7 +46,9 @@ ghost use Rattle.sap_statements.specs.declared.statement.Statement.{Statement};
 ghost use Rattle.sap_statements.specs.Statements.{IsStatement};
 ghost use Rattle.sap_grammar.specs.declared.limits.Limits.{Limits};
 
-use sap_draft::{one_process, processes_are_printable, same_processes, some_process};
+use sap_draft::{
+    located_processes, one_process, processes_are_printable, same_processes, some_process,
+};
 use sap_formula::faultless_formulas_are_checked;
 use sap_grammar::{item_laws, same_grammar, words_of_bytes};
 use sap_locks::{annotations_are_ready, annotations_of_processes};
@@ -246,6 +249,17 @@ pub fn one_list_of_items()
     item_laws();
     process_laws();
     statement_laws();
+}
+
+/// A law: the items that words spell, with the words that tell the places of their processes, are without these words what the items
+/// say of processes; and however the same words spell them, they are the same.
+pub fn located_items()
+    ensures plain { (g : Sig) (cut : List (List Placed)) (is : List Standing) (r : AreItems g cut is)
+        → map plain_body (located_bodies r) ≡ bodies is }
+    ensures one { (g : Sig) (cut : List (List Placed)) (is js : List Standing) (r : AreItems g cut is)
+        (s : AreItems g cut js) → located_bodies r ≡ located_bodies s }
+{
+    located_processes();
 }
 
 /// A law: a file that is read is written with some definitions and one process; bytes are written so in one way; and what the process

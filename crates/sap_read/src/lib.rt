@@ -15,6 +15,7 @@ mod parameters;
 mod taken;
 mod terms;
 mod whole;
+mod written;
 
 pub use by_hand::{
     causes_by_hand, file_processes_by_hand, files_by_hand, identifiers_by_hand,
@@ -26,8 +27,8 @@ pub use laws::{
     file_processes_are_one, file_unless_refused, files_are_named_apart, files_are_printable,
     files_are_ready, files_are_runnable, files_show_as_they_are_written,
     files_without_parameters_are_as_written, grammar_is_one, identifiers_hold_variables,
-    labels_show_nothing, one_file, one_list_of_items, plain_files_need_no_instances, some_file,
-    used_definitions_are_closed,
+    labels_show_nothing, located_items, one_file, one_list_of_items, plain_files_need_no_instances,
+    some_file, used_definitions_are_closed,
 };
 pub use limits::MOST_NEW_NAME_BYTES;
 pub use sap_draft::{FILE_LIMITS, one_process, processes_by_hand};
@@ -35,3 +36,4 @@ pub use sap_formula_grammar::one_formula;
 pub use sap_grammar::{one_fact, one_term};
 pub use sap_statements::one_statement;
 pub use terms::{read_fact, read_formula, read_term};
+pub use written::{FileProcesses, WrittenFile, written_file};

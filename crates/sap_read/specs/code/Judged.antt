@@ -17,6 +17,9 @@ use Rattle.sap_read.specs.ItemGrammar.{AreItems, IsFaultyFile}
 use Rattle.sap_read.specs.FileProcess.{IsExpanded, IsUnexpanded}
 use Rattle.sap_uses.specs.declared.fault.MacroFault.{MacroFault}
 use Rattle.sap_read.specs.Causes.{cause, fault_of_uses, lock_fault}
+use Rattle.sap_read.specs.LocatedItems.{located_bodies}
+use Rattle.sap_read.specs.code.Parting.{AreLocatedParts, AreParts}
+use Rattle.sap_read.specs.declared.written.FileProcesses.{FileProcesses}
 use Rattle.sap_statements.specs.Stated.{AreFaultless, IsFirstFaulty, restrictions_of, lemmas_of}
 
 -- the process has no flaw, and this is it with sorts and labels
@@ -103,11 +106,14 @@ pub record IsAccepted (g : Sig) (clash : Option (List ℕ)) (names : List (List 
 abbrev pub IsRefused : Sig → Option (List ℕ) → List (List ℕ) → List Body → List Statement → ReadFault → Type 0
 IsRefused g clash names bs ss e = IsRefusedAs g clash names bs ss e ⊎ IsUnchecked g clash names bs ss e
 
--- these are items under the signature that are accepted
-pub record AreAccepted (g : Sig) (clash : Option (List ℕ)) (names : List (List ℕ)) (cut : List (List Placed)) (q : Proc) (rs : List RestrictionForm) (ls : List LemmaForm) : Type 0 where
+-- these are items under the signature that nothing refuses before uses are looked at, and these are their statements and processes,
+-- however they are spelled
+pub record AreWritten (g : Sig) (clash : Option (List ℕ)) (cut : List (List Placed)) (ss : List Statement) (p : FileProcesses) : Type 0 where
   pub standing : List Standing
   pub items : AreItems g cut standing
-  pub accepted : IsAccepted g clash names (bodies standing) (statements standing) q rs ls
+  pub statements_are : ss ≡ statements standing
+  pub parts : AreParts (bodies standing) (statements standing) clash p
+  pub places : (js : List Standing) (r : AreItems g cut js) → AreLocatedParts (located_bodies r) p
 
 -- these are items under the signature that are refused for this
 pub record AreRefused (g : Sig) (clash : Option (List ℕ)) (names : List (List ℕ)) (cut : List (List Placed)) (e : ReadFault) : Type 0 where

@@ -1,0 +1,146 @@
+-- Steps along a path.
+use Rattle.std.proofs.Common.{◌≡◌, ◌<◌, ◌≤◌, ℕ, suc, ◌+◌, ◌-◌, List, [], ◌∷◌, length, drop, take, Option, Some, None, refl, sym, ap, subst, ◌∙◌, arith}
+use Rattle.std.specs.Prelude.{option_map, slice_index_or}
+use Rattle.std.proofs.Common.{add-one, drop-cons}
+use Rattle.std.proofs.lemmas.Grind.{common_steps}
+use Rattle.sap_terms.specs.Tree.{Tree}
+use Rattle.sap_macro.specs.Located.{Located, call_at}
+use Rattle.std.specs.Borrow.{Bor}
+use Rattle.sap_macro.specs.Indexed.{defined}
+use Rattle.sap_macro.specs.Order.{UsesOnly}
+use Rattle.sap_macro.specs.Sources.{located, written}
+use Rattle.sap_macro.specs.declared.source.Source.{Source}
+use Rattle.sap_macro.specs.Written.{Definition}
+use Rattle.sap_origin.specs.Definitions.{LocatedDefinition}
+use Rattle.sap_origin.specs.Meant.{definition_of}
+use Rattle.sap_origin.specs.Origins.{start, words_left}
+use Rattle.sap_origin.specs.Reached.{IsForm, Reaches, reaches_here, reaches_use, reaches_left, reaches_right, reaches_copy, reaches_behind, reaches_then, reaches_else, reaches_found, reaches_missing, Standing, entered, number_of}
+use Rattle.sap_origin.specs.code.Steps.{AreSame, IsOn, Tells, way_of, IsBelow, is_left, is_right, is_copy, is_behind, is_then, is_else, is_found, is_missing, IsWithin, StandsSo, StepsTo, way_left}
+use Rattle.sap_origin.specs.declared.origin.Here.{Here}
+use Rattle.sap_origin.specs.declared.origin.Step.{Step}
+use Rattle.sap_origin.specs.declared.origin.Step.TheVariants.{There, Nowhere, On}
+
+take_whole : (es : List Definition) (n : ℕ) → n ≡ length es → take n es ≡ es
+take_whole es n all = rw all (grind (arith, common_steps))
+
+-- the digit that comes next
+pub next_digit : (path : List ℕ) (at : ℕ) → at < length path → drop at path ≡ slice_index_or path at 0 ∷ drop (at + 1) path
+next_digit path at h = rw (add-one, drop-cons path at 0) refl
+
+pub no_digit : (path : List ℕ) (at : ℕ) → length path ≤ at → drop at path ≡ []
+no_digit path at h = grind (arith, common_steps)
+
+module _ (ds : List LocatedDefinition) where
+  -- ---- down a digit
+
+  pub down : {s z : Standing} {p c q : Located} {e : ℕ} {path : List ℕ} → IsBelow p e c → Reaches ds s c path z q → Reaches ds s p (e ∷ path) z q
+  down is_left r = reaches_left r
+  down is_right r = reaches_right r
+  down is_copy r = reaches_copy r
+  down is_behind r = reaches_behind r
+  down is_then r = reaches_then r
+  down is_else r = reaches_else r
+  down is_found r = reaches_found r
+  down is_missing r = reaches_missing r
+
+  -- from a form one goes on to what is below
+  pub record Below (s z : Standing) (p q : Located) (e : ℕ) (path : List ℕ) : Type 0 where
+    pub child : Located
+    pub is : IsBelow p e child
+    pub reaches : Reaches ds s child path z q
+
+  pub child_of : {s z : Standing} {p q : Located} {e : ℕ} {path : List ℕ} → IsForm p → Reaches ds s p (e ∷ path) z q → Below s z p q e path
+  child_of f (reaches_use e r) = absurd f
+  child_of f (reaches_left r) = record { child = _; is = is_left; reaches = r }
+  child_of f (reaches_right r) = record { child = _; is = is_right; reaches = r }
+  child_of f (reaches_copy r) = record { child = _; is = is_copy; reaches = r }
+  child_of f (reaches_behind r) = record { child = _; is = is_behind; reaches = r }
+  child_of f (reaches_then r) = record { child = _; is = is_then; reaches = r }
+  child_of f (reaches_else r) = record { child = _; is = is_else; reaches = r }
+  child_of f (reaches_found r) = record { child = _; is = is_found; reaches = r }
+  child_of f (reaches_missing r) = record { child = _; is = is_missing; reaches = r }
+
+  one_below : {p c d : Located} {e : ℕ} → IsBelow p e c → IsBelow p e d → c ≡ d
+  one_below is_left is_left = refl
+  one_below is_right is_right = refl
+  one_below is_copy is_copy = refl
+  one_below is_behind is_behind = refl
+  one_below is_then is_then = refl
+  one_below is_else is_else = refl
+  one_below is_found is_found = refl
+  one_below is_missing is_missing = refl
+
+  pub same_below : (s : Standing) (p c : Located) (e : ℕ) (path : List ℕ) → IsForm p → IsBelow p e c → AreSame ds s p (e ∷ path) s c path
+  same_below s p c e path f is = record {
+    to = λ z w r.
+        let b = child_of f r in
+        subst (λ (d : Located). Reaches ds s d path z w) (one_below b.is is) b.reaches;
+    from = λ z w r. down is r;
+  }
+
+  pub nothing_below : (s : Standing) (p : Located) (e : ℕ) (path : List ℕ) → IsForm p → ((c : Located) → IsBelow p e c → ⊥) → (z : Standing) (w : Located) → Reaches ds s p (e ∷ path) z w → ⊥
+  nothing_below s p e path f none z w r = let b = child_of f r in none b.child b.is
+
+  -- ---- through a use
+
+  some_is : {d e : LocatedDefinition} → ◌≡◌ {A = Option LocatedDefinition} (Some d) (Some e) → d ≡ e
+  some_is h = cc (h)
+
+  through : {s z : Standing} {k : ℕ} {f : List ℕ} {ts : List Tree} {path : List ℕ} {w : Located} (d : LocatedDefinition) → definition_of ds f ≡ Some d → Reaches ds s (call_at k f ts) path z w
+      → Reaches ds (entered s k d) d.body path z w
+  through d is (reaches_here h) = absurd h
+  through {s = s} {z = z} {k = k} {path = path} {w = w} d is (reaches_use e n) = subst (λ (b : LocatedDefinition). Reaches ds (entered s k b) b.body path z w) (some_is (sym e ∙ is)) n
+
+  pub same_used : (s : Standing) (k : ℕ) (f : List ℕ) (ts : List Tree) (d : LocatedDefinition) (path : List ℕ) → definition_of ds f ≡ Some d
+      → AreSame ds s (call_at k f ts) path (entered s k d) d.body path
+  same_used s k f ts d path is = record { to = λ z w r. through d is r; from = λ z w r. reaches_use is r }
+
+  no_use : {s z : Standing} {k : ℕ} {f : List ℕ} {ts : List Tree} {path : List ℕ} {w : Located} → definition_of ds f ≡ None → Reaches ds s (call_at k f ts) path z w → ⊥
+  no_use is (reaches_here h) = h
+  no_use is (reaches_use e n) = absurd (cc (e, is))
+
+  pub not_used : (s : Standing) (k : ℕ) (f : List ℕ) (ts : List Tree) (path : List ℕ) → definition_of ds f ≡ None → (z : Standing) (w : Located) → Reaches ds s (call_at k f ts) path z w → ⊥
+  not_used s k f ts path is z w r = no_use is r
+
+  -- ---- all steps
+
+  pub same_on : {s t u : Standing} {p q r : Located} {a b c : List ℕ} → AreSame ds s p a t q b → AreSame ds t q b u r c → AreSame ds s p a u r c
+  same_on one two = record { to = λ z w h. two.to z w (one.to z w h); from = λ z w h. one.from z w (two.from z w h) }
+
+  module _ (es : List Definition) (path : List ℕ) (behind : ℕ) (p : Located) where
+    pub tells_next : (h : Here) (r : Step) → IsOn es ds path behind p h → ((s : Standing) → StandsSo s h → IsWithin es path h → StepsTo es ds path s h r) → Tells es ds path behind p r
+    tells_next h (There o) on step =
+        let s = on.standing in
+        let told = step s on.stands on.within in
+        let place = located h.source.now in
+        let left : o.word.left ≡ number_of place = told.2 in
+        let behind_is : o.word.behind ≡ s.behind = told.3 ∙ sym on.stands.behind_is in
+        record {
+          standing = s;
+          place = place;
+          reaches = on.same.from s place (subst (λ (rest : List ℕ). Reaches ds s place rest s place) (sym told.1) (reaches_here told.0));
+          word_is = rw (left, behind_is) refl;
+          used_is = ap (option_map words_left) told.4 ∙ sym on.stands.used_is;
+        }
+    tells_next h Nowhere on step = λ z w r. step on.standing on.stands on.within z w (on.same.to z w r)
+    tells_next h (On n) on step =
+        let further = step on.standing on.stands on.within in
+        record { standing = further.standing; stands = further.stands; within = further.within; same = same_on on.same further.same }
+
+    pub way_smaller : (h : Here) (r : Step) → IsOn es ds path behind p h → ((s : Standing) → StandsSo s h → IsWithin es path h → StepsTo es ds path s h r) → way_of path r < suc (way_left path h)
+    way_smaller h (There o) on step = omega arith
+    way_smaller h Nowhere on step = omega arith
+    way_smaller h (On n) on step = let less = (step on.standing on.stands on.within).less in omega (arith, less)
+
+  pub begins_on : (es : List Definition) (path : List ℕ) (behind : ℕ) (r : Bor Source) (n : ℕ) → n ≡ length es → UsesOnly (defined es) (written r.now)
+      → IsOn es ds path behind (located r.now) (record { source = r; behind = behind; used = None; bound = n; at = 0 })
+  begins_on es path behind r n all uses = record {
+    standing = start behind;
+    stands = record { behind_is = refl; used_is = refl };
+    within = record {
+      uses = subst (λ (ds : List Definition). UsesOnly (defined ds) (written r.now)) (sym (take_whole es n all)) uses;
+      bounded = omega (arith, all);
+      at_most = omega arith;
+    };
+    same = record { to = λ z w h. h; from = λ z w h. h };
+  }

@@ -1,0 +1,5 @@
+pub mod Definitions
+pub mod Meant
+pub mod Reached
+pub mod Origins
+pub mod code

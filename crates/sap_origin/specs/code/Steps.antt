@@ -1,0 +1,88 @@
+-- One step on the way along a path.
+use Rattle.std.specs.Prelude.{◌≡◌, ◌<◌, ◌≤◌, ℕ, suc, ◌+◌, ◌-◌, List, [], drop, length, take, option_map}
+use Rattle.sap_terms.specs.Tree.{Tree}
+use Rattle.sap_terms.specs.declared.var.Var.{Var}
+use Rattle.sap_process.specs.Action.{Action}
+use Rattle.sap_macro.specs.Indexed.{defined}
+use Rattle.sap_macro.specs.Located.{Located, parallel_at, replicated_at, act_at, test_at, lookup_at}
+use Rattle.sap_macro.specs.Order.{UsesOnly}
+use Rattle.sap_macro.specs.Sources.{located, written}
+use Rattle.sap_macro.specs.Written.{Definition}
+use Rattle.sap_origin.specs.Definitions.{LocatedDefinition}
+use Rattle.sap_origin.specs.Origins.{IsOrigin, innermost, start, words_left}
+use Rattle.sap_origin.specs.Reached.{IsForm, Reaches, Standing, number_of}
+use Rattle.sap_origin.specs.declared.origin.Here.{Here}
+use Rattle.sap_origin.specs.declared.origin.Step.{Step}
+use Rattle.sap_origin.specs.declared.origin.Step.TheVariants.{There, Nowhere, On}
+
+-- what stands directly below at a digit
+pub data IsBelow : Located → ℕ → Located → Type 0 where
+  is_left : {k : ℕ} {p q : Located} → IsBelow (parallel_at k p q) 1 p
+  is_right : {k : ℕ} {p q : Located} → IsBelow (parallel_at k p q) 2 q
+  is_copy : {k : ℕ} {p : Located} → IsBelow (replicated_at k p) 1 p
+  is_behind : {k : ℕ} {a : Action} {p : Located} → IsBelow (act_at k a p) 1 p
+  is_then : {k : ℕ} {t u : Tree} {p q : Located} → IsBelow (test_at k t u p q) 1 p
+  is_else : {k : ℕ} {t u : Tree} {p q : Located} → IsBelow (test_at k t u p q) 2 q
+  is_found : {k : ℕ} {t : Tree} {x : Var} {p q : Located} → IsBelow (lookup_at k t x p q) 1 p
+  is_missing : {k : ℕ} {t : Tree} {x : Var} {p q : Located} → IsBelow (lookup_at k t x p q) 2 q
+
+-- the walk stands so
+pub record StandsSo (s : Standing) (h : Here) : Type 0 where
+  pub behind_is : s.behind ≡ h.behind
+  pub used_is : innermost s.uses ≡ option_map words_left h.used
+
+-- it is in a process that uses the first definitions alone, before the bound
+pub record IsWithin (es : List Definition) (path : List ℕ) (h : Here) : Type 0 where
+  pub uses : UsesOnly (defined (take h.bound es)) (written h.source.now)
+  pub bounded : h.bound ≤ length es
+  pub at_most : h.at ≤ length path
+
+-- the way that is left, at most
+abbrev pub way_left : List ℕ → Here → ℕ
+way_left path h = h.bound + (length path - h.at)
+
+-- one comes to the same places from here and there
+pub record AreSame (ds : List LocatedDefinition) (s : Standing) (p : Located) (path : List ℕ) (t : Standing)
+    (q : Located) (rest : List ℕ) : Type 0 where
+  pub to : (z : Standing) (w : Located) → Reaches ds s p path z w → Reaches ds t q rest z w
+  pub from : (z : Standing) (w : Located) → Reaches ds t q rest z w → Reaches ds s p path z w
+
+-- a step further
+pub record GoesOn (es : List Definition) (ds : List LocatedDefinition) (path : List ℕ) (s : Standing) (h n : Here)
+    : Type 0 where
+  pub standing : Standing
+  pub stands : StandsSo standing n
+  pub within : IsWithin es path n
+  pub same : AreSame ds s (located h.source.now) (drop h.at path) standing (located n.source.now)
+      (drop n.at path)
+  pub less : way_left path n < way_left path h
+
+-- where a step from here comes to
+abbrev pub StepsTo : List Definition → List LocatedDefinition → List ℕ → Standing → Here → Step → Type 0
+StepsTo es ds path s h (There o) =
+    IsForm (located h.source.now) × (drop h.at path ≡ []) × (o.word.left ≡ number_of (located h.source.now))
+    × (o.word.behind ≡ h.behind) × (o.used ≡ h.used)
+StepsTo es ds path s h Nowhere =
+    (z : Standing) (w : Located) → Reaches ds s (located h.source.now) (drop h.at path) z w → ⊥
+StepsTo es ds path s h (On n) = GoesOn es ds path s h n
+
+-- from the process at the root one comes to the same places as from here
+pub record IsOn (es : List Definition) (ds : List LocatedDefinition) (path : List ℕ) (behind : ℕ) (p : Located) (h : Here)
+    : Type 0 where
+  pub standing : Standing
+  pub stands : StandsSo standing h
+  pub within : IsWithin es path h
+  pub same : AreSame ds (start behind) p path standing (located h.source.now) (drop h.at path)
+
+-- what a step tells of the whole path
+abbrev pub Tells : List Definition → List LocatedDefinition → List ℕ → ℕ → Located → Step → Type 0
+Tells es ds path behind p (There o) = IsOrigin ds p behind path o
+Tells es ds path behind p Nowhere =
+    (z : Standing) (w : Located) → Reaches ds (start behind) p path z w → ⊥
+Tells es ds path behind p (On h) = IsOn es ds path behind p h
+
+-- the way that is left behind a step, at most
+abbrev pub way_of : List ℕ → Step → ℕ
+way_of path (There o) = 0
+way_of path Nowhere = 0
+way_of path (On h) = suc (way_left path h)

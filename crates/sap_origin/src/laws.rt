@@ -1,0 +1,46 @@
+//! Laws of written places, as contracts of functions that do nothing.
+ghost use Rattle.std.specs.Prelude.{◌≡◌, ℕ, List, [], Some, length, map};
+ghost use Rattle.sap_process.specs.Proc.{Proc};
+ghost use Rattle.sap_macro.specs.Expansion.{expansion};
+ghost use Rattle.sap_macro.specs.Indexed.{defined};
+ghost use Rattle.sap_macro.specs.Located.{Located, without_numbers};
+ghost use Rattle.sap_macro.specs.Order.{AreInOrder, UsesOnly};
+ghost use Rattle.sap_macro.specs.Sources.{definitions};
+ghost use Rattle.sap_macro.specs.declared.definition.Definition.{Definition};
+ghost use Rattle.sap_origin.specs.Definitions.{LocatedDefinition, located_definitions, plain_definition};
+ghost use Rattle.sap_origin.specs.Meant.{Means};
+ghost use Rattle.sap_origin.specs.Reached.{IsForm, Reaches, Standing, process_at};
+
+use sap_macro::{located_is_written, plain_names_stand_for_bodies};
+
+/// A law: definitions with the words of their places are, without these, what is written.
+pub fn located_definitions_are_written()
+    ensures { (ds : List Definition) (ns : List ℕ) → length ns ≡ length ds
+        → map plain_definition (located_definitions ds ns) ≡ definitions ds }
+{
+    located_is_written();
+}
+
+/// A law: what is written means its expansion, whatever names the file has, where no definition has the name of an earlier one, each
+/// uses earlier ones alone, and the process uses these.
+pub fn expansions_are_meant()
+    ensures { (ds : List LocatedDefinition) (p : Located) (identifiers : List (List ℕ))
+        → AreInOrder [] (map plain_definition ds)
+        → UsesOnly (defined (map plain_definition ds)) (without_numbers p)
+        → Means ds p (expansion (map plain_definition ds) identifiers (without_numbers p)).process }
+{
+    plain_names_stand_for_bodies();
+}
+
+/// A law: to each place of a process that is meant one comes along its path by one written place, and through one chain of uses; and
+/// this place means what is there, so that it has its form. Along no other path one comes to a place.
+pub fn one_written_place()
+    ensures some { (ds : List LocatedDefinition) (s : Standing) (p : Located) (x y : Proc)
+        (path : List ℕ) → Means ds p x → process_at x path ≡ Some y
+        → (z : Standing) × (q : Located) × Reaches ds s p path z q × IsForm q × Means ds q y }
+    ensures one { (ds : List LocatedDefinition) (s z w : Standing) (p q r : Located) (path : List ℕ)
+        → Reaches ds s p path z q → Reaches ds s p path w r → (z ≡ w) × (q ≡ r) }
+    ensures only { (ds : List LocatedDefinition) (s z : Standing) (p q : Located) (x : Proc)
+        (path : List ℕ) → Means ds p x → Reaches ds s p path z q
+        → (y : Proc) × (process_at x path ≡ Some y) × Means ds q y }
+{}

@@ -1,0 +1,8 @@
+//! By which written place, and through which uses, one comes to a place of an expansion.
+#![tactic(auto)]
+
+mod laws;
+mod origin;
+
+pub use laws::{expansions_are_meant, located_definitions_are_written, one_written_place};
+pub use origin::{FileWord, Origin, origin_of};
