@@ -78,12 +78,7 @@ pub fn started(alloc: Global, sig: &Signature, p: &Process) -> Result<Box<Config
 /// What is told of a run of a process, each line done once, and what it shows. `Step` names the first illegal line. Its time goes with
 /// the process's heads, the lines and the text, not with those of what was known and stored before. It recurses as deep as the process
 /// and the terms of process and run.
-pub fn tell_run(
-    alloc: Global,
-    sig: &Signature,
-    p: &Process,
-    run: &PSteps,
-) -> Result<ToldRun, At>
+pub fn tell_run(alloc: Global, sig: &Signature, p: &Process, run: &PSteps) -> Result<ToldRun, At>
     requires builtins { HoldsBuiltins sig.now }
     requires ready { IsReady sig.now (proc p.now) }
     ensures told { IfOk result (λ t. IsToldAs sig.now (proc p.now) run.now t.trace t.text) }
