@@ -86,7 +86,7 @@ module _ (ds : List LocatedDefinition) where
   some_is : {d e : LocatedDefinition} → ◌≡◌ {A = Option LocatedDefinition} (Some d) (Some e) → d ≡ e
   some_is h = cc (h)
 
-  through : {s z : Standing} {k : ℕ} {f : List ℕ} {ts : List Tree} {path : List ℕ} {w : Located} (d : LocatedDefinition) → definition_of ds f ≡ Some d → Reaches ds s (call_at k f ts) path z w
+  pub through : {s z : Standing} {k : ℕ} {f : List ℕ} {ts : List Tree} {path : List ℕ} {w : Located} (d : LocatedDefinition) → definition_of ds f ≡ Some d → Reaches ds s (call_at k f ts) path z w
       → Reaches ds (entered s k d) d.body path z w
   through d is (reaches_here h) = absurd h
   through {s = s} {z = z} {k = k} {path = path} {w = w} d is (reaches_use e n) = subst (λ (b : LocatedDefinition). Reaches ds (entered s k b) b.body path z w) (some_is (sym e ∙ is)) n

@@ -2,4 +2,5 @@ pub mod Definitions
 pub mod Meant
 pub mod Reached
 pub mod Origins
+pub mod Examples
 pub mod code

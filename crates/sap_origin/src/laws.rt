@@ -1,5 +1,5 @@
 //! Laws of written places, as contracts of functions that do nothing.
-ghost use Rattle.std.specs.Prelude.{◌≡◌, ℕ, List, [], Some, length, map};
+ghost use Rattle.std.specs.Prelude.{◌≡◌, ℕ, List, [], ◌∷◌, Some, length, map};
 ghost use Rattle.sap_process.specs.Proc.{Proc};
 ghost use Rattle.sap_macro.specs.Expansion.{expansion};
 ghost use Rattle.sap_macro.specs.Indexed.{defined};
@@ -8,6 +8,7 @@ ghost use Rattle.sap_macro.specs.Order.{AreInOrder, UsesOnly};
 ghost use Rattle.sap_macro.specs.Sources.{definitions};
 ghost use Rattle.sap_macro.specs.declared.definition.Definition.{Definition};
 ghost use Rattle.sap_origin.specs.Definitions.{LocatedDefinition, located_definitions, plain_definition};
+ghost use Rattle.sap_origin.specs.Examples.{ComesTo};
 ghost use Rattle.sap_origin.specs.Meant.{Means};
 ghost use Rattle.sap_origin.specs.Reached.{IsForm, Reaches, Standing, process_at};
 
@@ -43,4 +44,22 @@ pub fn one_written_place()
     ensures only { (ds : List LocatedDefinition) (s z : Standing) (p q : Located) (x : Proc)
         (path : List ℕ) → Means ds p x → Reaches ds s p path z q
         → (y : Proc) × (process_at x path ≡ Some y) × Means ds q y }
+{}
+
+/// A law: in a small file the places of its process, each with the word that tells it and the uses through which one comes there; and
+/// which words and uses these aren't: the use in place of the body, a place that looks alike, the uses in the other order, the
+/// innermost or the outermost alone, none.
+pub fn places_by_hand()
+    ensures sign { ComesTo [] 6 [] }
+    ensures through_both { ComesTo (1 ∷ []) 20 (13 ∷ 7 ∷ []) }
+    ensures beside { ComesTo (2 ∷ []) 5 [] }
+    ensures missing { ComesTo (1 ∷ 1 ∷ []) 20 (13 ∷ 7 ∷ []) × ComesTo (2 ∷ 1 ∷ []) 5 [] }
+    ensures no_use { (us : List ℕ) → (ComesTo (1 ∷ []) 13 us → ⊥) × (ComesTo (1 ∷ []) 7 us → ⊥) }
+    ensures no_other { (us : List ℕ) → ComesTo (1 ∷ []) 5 us → ⊥ }
+    ensures no_words_behind { (us : List ℕ) → ComesTo (1 ∷ []) 4 us → ⊥ }
+    ensures no_other_order { (k : ℕ) → ComesTo (1 ∷ []) k (7 ∷ 13 ∷ []) → ⊥ }
+    ensures no_fewer { (k : ℕ) → (ComesTo (1 ∷ []) k (13 ∷ []) → ⊥) × (ComesTo (1 ∷ []) k (7 ∷ []) → ⊥)
+        × (ComesTo (1 ∷ []) k [] → ⊥) }
+    ensures no_use_beside { (k : ℕ) → (ComesTo (2 ∷ []) k (7 ∷ []) → ⊥) × (ComesTo [] k (7 ∷ []) → ⊥) }
+    ensures nowhere { (k : ℕ) (us : List ℕ) → (ComesTo (3 ∷ []) k us → ⊥) × (ComesTo (1 ∷ 2 ∷ []) k us → ⊥) }
 {}
