@@ -8,6 +8,8 @@ pub mod Turns
 pub mod FollowTerms
 pub mod FollowProcess
 pub mod FollowFormula
+pub mod FreeItems
+pub mod FileParts
 pub mod FollowItems
 pub mod FollowUpTo
 pub mod ItemsByHand

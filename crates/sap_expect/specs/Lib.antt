@@ -2,6 +2,7 @@ pub mod FirstWrong
 pub mod FileTable
 pub mod AnyLevels
 pub mod Letters
+pub mod FileWords
 pub mod ItemsUpTo
 pub mod TermLevels
 pub mod LevelExamples

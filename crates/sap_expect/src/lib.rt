@@ -3,6 +3,7 @@
 
 mod converse_laws;
 mod deep;
+mod file_laws;
 mod frame;
 mod laws;
 mod level_laws;
@@ -17,6 +18,7 @@ pub use converse_laws::{
     names_without_letters, processes_that_follow_are_spelled, terms_that_follow_are_spelled,
 };
 pub use deep::too_deep;
+pub use file_laws::files_are_their_words;
 pub use laws::{files_follow_the_table, items_by_hand, table_goes_on};
 pub use level_laws::{levels_by_hand, taken_words_are_terms, taken_words_go_on};
 pub use walk::first_wrong;
