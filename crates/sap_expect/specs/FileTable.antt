@@ -156,13 +156,13 @@ rows Term =
     ∷ (any_name, Always, level One ∷ [])
     ∷ (sign (codes "~"), Always, any_name ∷ level One ∷ [])
     ∷ (sign (codes "$"), Always, any_name ∷ level One ∷ [])
-    ∷ (sign (codes "<"), HasRoom, part Term Below ∷ part Pair Below ∷ []) ∷ []
+    ∷ (sign (codes "<"), HasRoom, part Term Below ∷ part Pair Same ∷ []) ∷ []
 rows Application = (sign (codes "("), Always, part Terms Below ∷ level More ∷ []) ∷ []
 rows Terms = (sign (codes ")"), Always, level Nothing ∷ []) ∷ []
 rows MoreTerms =
     (sign (codes ")"), Always, [])
     ∷ (sign (codes ","), Always, part Term Same ∷ level Deepest ∷ part MoreTerms Same ∷ []) ∷ []
-rows Pair = (sign (codes ","), Always, part Term Same ∷ part MoreParts Same ∷ level Joined ∷ []) ∷ []
+rows Pair = (sign (codes ","), Always, part Term Below ∷ part MoreParts Below ∷ level Joined ∷ []) ∷ []
 rows MoreParts =
     (sign (codes ">"), Always, [])
     ∷ (sign (codes ","), GoesOn, part Term Below ∷ part MoreParts Below ∷ level Joined ∷ []) ∷ []
@@ -192,7 +192,7 @@ rows Atom =
     ∷ (in_quotes, Always, sign (codes "=") ∷ part Term Same ∷ [])
     ∷ (sign (codes "~"), Always, any_name ∷ sign (codes "=") ∷ part Term Same ∷ [])
     ∷ (sign (codes "$"), Always, any_name ∷ sign (codes "=") ∷ part Term Same ∷ [])
-    ∷ (sign (codes "<"), HasRoom, part Term Below ∷ part Pair Below ∷ sign (codes "=") ∷ part Term Same ∷ []) ∷ []
+    ∷ (sign (codes "<"), HasRoom, part Term Below ∷ part Pair Same ∷ sign (codes "=") ∷ part Term Same ∷ []) ∷ []
 rows UpperAtom =
     (sign (codes "("), Always, part Terms Same ∷ sign (codes "@") ∷ part Time Same ∷ [])
     ∷ (sign (codes "="), Always, part Term Same ∷ [])

@@ -164,7 +164,7 @@ pub(crate) const TERM: &[Row] = &[
     (Name, Always, &[Level(One)]),
     (Mark("~"), Always, &[Name, Level(One)]),
     (Mark("$"), Always, &[Name, Level(One)]),
-    (Mark("<"), HasRoom, &[A(Term, Below), A(Pair, Below)]),
+    (Mark("<"), HasRoom, &[A(Term, Below), A(Pair, Same)]),
 ];
 
 pub(crate) const APPLICATION: &[Row] = &[
@@ -181,7 +181,7 @@ pub(crate) const MORE_TERMS: &[Row] = &[
 ];
 
 pub(crate) const PAIR: &[Row] = &[
-    (Mark(","), Always, &[A(Term, Same), A(MoreParts, Same), Level(Joined)]),
+    (Mark(","), Always, &[A(Term, Below), A(MoreParts, Below), Level(Joined)]),
 ];
 
 pub(crate) const MORE_PARTS: &[Row] = &[
@@ -225,7 +225,7 @@ pub(crate) const ATOM: &[Row] = &[
     (Quoted, Always, &[Mark("="), A(Term, Same)]),
     (Mark("~"), Always, &[Name, Mark("="), A(Term, Same)]),
     (Mark("$"), Always, &[Name, Mark("="), A(Term, Same)]),
-    (Mark("<"), HasRoom, &[A(Term, Below), A(Pair, Below), Mark("="), A(Term, Same)]),
+    (Mark("<"), HasRoom, &[A(Term, Below), A(Pair, Same), Mark("="), A(Term, Same)]),
 ];
 
 pub(crate) const UPPER_ATOM: &[Row] = &[
