@@ -9,6 +9,7 @@ pub mod FollowTerms
 pub mod FollowProcess
 pub mod FollowFormula
 pub mod FreeItems
+pub mod Fronts
 pub mod FileParts
 pub mod FollowItems
 pub mod FollowUpTo
