@@ -6,13 +6,13 @@ use Rattle.sap_grammar.specs.Reading.{as_name, as_quoted, as_number, is_name, is
 use Rattle.sap_grammar.specs.Declarations.{value}
 use Rattle.sap_draft.specs.declared.limits.TheConstants.{FILE_LIMITS}
 use Rattle.sap_expect.specs.declared.wanted.Part.{Part}
-use Rattle.sap_expect.specs.declared.wanted.Part.TheVariants.{File, Items, Builtin, MoreBuiltins, Function, Privacy, MoreFunctions, Parameters, MoreParameters, Lemma, Attribute, MoreAttributes, Mode, Process, Bars, Sequence, Arguments, Then, Else, NewName, Message, Facts, MoreFacts, Fact, Arrow, Shown, MoreShown, Term, Application, Terms, MoreTerms, Pair, MoreParts, Equivalence, MoreEquivalence, Implication, MoreImplication, Disjunction, MoreDisjunction, Conjunction, MoreConjunction, Formula, Truth, Atom, UpperAtom, LowerAtom, Times, Time, Binders, MoreBinders}
+use Rattle.sap_expect.specs.declared.wanted.Part.TheVariants.{File, Items, Builtin, MoreBuiltins, Function, Privacy, MoreFunctions, Parameters, MoreParameters, Lemma, Attribute, MoreAttributes, Mode, Process, Bars, Sequence, Arguments, Then, Else, NewName, Message, Facts, MoreFacts, Fact, Arrow, Shown, MoreShown, Term, Application, Terms, MoreTerms, Pair, MoreParts, Equivalence, MoreEquivalence, Ended, Implication, MoreImplication, Disjunction, MoreDisjunction, Conjunction, MoreConjunction, Formula, Truth, Atom, UpperAtom, LowerAtom, Times, Time, Binders, MoreBinders}
 use Rattle.sap_expect.specs.declared.wanted.Limit.{Limit}
 use Rattle.sap_expect.specs.declared.wanted.Limit.TheVariants.{Same, Below, OfTerm, OfProcess, OfFormula}
 use Rattle.sap_expect.specs.declared.wanted.Change.{Change}
 use Rattle.sap_expect.specs.declared.wanted.Change.TheVariants.{Nothing, One, Two, More, Deepest, Joined}
 use Rattle.sap_expect.specs.declared.wanted.Test.{Test}
-use Rattle.sap_expect.specs.declared.wanted.Test.TheVariants.{Always, HasLevel, HasRoom, GoesOn}
+use Rattle.sap_expect.specs.declared.wanted.Test.TheVariants.{Always, Never, HasLevel, HasRoom, GoesOn}
 
 -- what is wanted: this symbol or word of the grammar; this name; any name; one that begins with a small letter, or with a capital; a
 -- name in quotes; the number 0; an arity; the words of a part, with the levels that it may have. Or no word: the levels of what ended
@@ -51,10 +51,11 @@ is_wanted arity w = is_such is_arity (as_number w)
 is_wanted (part p l) w = false
 is_wanted (level c) w = false
 
--- whether a part of at most m levels may begin so: always; where it may have a level; where it may have two; where it may have one
--- more than what ended last, with n levels
+-- whether a part of at most m levels may begin so: always; never; where it may have a level; where it may have two; where it may have
+-- one more than what ended last, with n levels
 abbrev pub holds : Test → ℕ → ℕ → Bool
 holds Always m n = true
+holds Never m n = false
 holds HasLevel m n = nat_le 1 m
 holds HasRoom m n = nat_le 2 m
 holds GoesOn m n = nat_le (n + 1) m
@@ -167,7 +168,9 @@ rows MoreParts =
     (sign (codes ">"), Always, [])
     ∷ (sign (codes ","), GoesOn, part Term Below ∷ part MoreParts Below ∷ level Joined ∷ []) ∷ []
 rows Equivalence = []
-rows MoreEquivalence = (sign (codes "<=>"), GoesOn, part Implication Below ∷ level Joined ∷ []) ∷ []
+rows MoreEquivalence =
+    (sign (codes "<=>"), GoesOn, part Implication Below ∷ level Joined ∷ part Ended Same ∷ []) ∷ []
+rows Ended = (sign (codes "<=>"), Never, []) ∷ []
 rows Implication = []
 rows MoreImplication = (sign (codes "==>"), GoesOn, part Implication Below ∷ level Joined ∷ []) ∷ []
 rows Disjunction = []
@@ -234,6 +237,7 @@ otherwise Application = Some (Always, level One ∷ [])
 otherwise Terms = Some (HasLevel, part Term Same ∷ part MoreTerms Same ∷ [])
 otherwise Equivalence = Some (Always, part Implication Same ∷ part MoreEquivalence Same ∷ [])
 otherwise MoreEquivalence = Some (Always, [])
+otherwise Ended = Some (Always, [])
 otherwise Implication = Some (Always, part Disjunction Same ∷ part MoreImplication Same ∷ [])
 otherwise MoreImplication = Some (Always, [])
 otherwise Disjunction = Some (Always, part Conjunction Same ∷ part MoreDisjunction Same ∷ [])
@@ -268,8 +272,8 @@ changed Nothing n k = 0
 changed One n k = 1
 changed Two n k = 2
 changed More n k = n + 1
-changed Deepest n k = max n k
-changed Joined n k = max n k + 1
+changed Deepest n k = max k n
+changed Joined n k = max k n + 1
 
 -- what is wanted, with a number: of a part, how many levels it may have; of a change, how many what had ended before has
 abbrev pub Open : Type 0

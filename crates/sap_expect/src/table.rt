@@ -2,9 +2,9 @@
 
 use crate::wanted::Change::{Deepest, Joined, More, Nothing, One, Two};
 use crate::wanted::Limit::{Below, OfFormula, OfProcess, OfTerm, Same};
-use crate::wanted::Part::{Application, Arguments, Arrow, Atom, Attribute, Bars, Binders, Builtin, Conjunction, Disjunction, Else, Equivalence, Fact, Facts, Formula, Function, Implication, Items, Lemma, LowerAtom, Message, Mode, MoreAttributes, MoreBinders, MoreBuiltins, MoreConjunction, MoreDisjunction, MoreEquivalence, MoreFacts, MoreFunctions, MoreImplication, MoreParameters, MoreParts, MoreShown, MoreTerms, NewName, Pair, Parameters, Privacy, Process, Sequence, Shown, Term, Terms, Then, Time, Times, Truth, UpperAtom};
+use crate::wanted::Part::{Application, Arguments, Arrow, Atom, Attribute, Bars, Binders, Builtin, Conjunction, Disjunction, Else, Ended, Equivalence, Fact, Facts, Formula, Function, Implication, Items, Lemma, LowerAtom, Message, Mode, MoreAttributes, MoreBinders, MoreBuiltins, MoreConjunction, MoreDisjunction, MoreEquivalence, MoreFacts, MoreFunctions, MoreImplication, MoreParameters, MoreParts, MoreShown, MoreTerms, NewName, Pair, Parameters, Privacy, Process, Sequence, Shown, Term, Terms, Then, Time, Times, Truth, UpperAtom};
 use crate::wanted::Test;
-use crate::wanted::Test::{Always, GoesOn, HasLevel, HasRoom};
+use crate::wanted::Test::{Always, GoesOn, HasLevel, HasRoom, Never};
 use crate::wanted::Wanted;
 use crate::wanted::Wanted::{A, Arity, Level, Lower, Mark, Name, Named, Quoted, Upper, Zero};
 
@@ -190,8 +190,10 @@ pub(crate) const MORE_PARTS: &[Row] = &[
 ];
 
 pub(crate) const MORE_EQUIVALENCE: &[Row] = &[
-    (Mark("<=>"), GoesOn, &[A(Implication, Below), Level(Joined)]),
+    (Mark("<=>"), GoesOn, &[A(Implication, Below), Level(Joined), A(Ended, Same)]),
 ];
+
+pub(crate) const ENDED: &[Row] = &[(Mark("<=>"), Never, &[])];
 
 pub(crate) const MORE_IMPLICATION: &[Row] = &[
     (Mark("==>"), GoesOn, &[A(Implication, Below), Level(Joined)]),

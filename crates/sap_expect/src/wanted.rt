@@ -57,6 +57,7 @@ pub(crate) enum Change {
 #[derive(Clone, Copy)]
 pub(crate) enum Test {
     Always,
+    Never,
     /// It may have a level.
     HasLevel,
     /// It may have two.
@@ -130,6 +131,8 @@ pub(crate) enum Part {
     /// A formula, and what is behind its first side.
     Equivalence,
     MoreEquivalence,
+    /// What is behind its second side: no third.
+    Ended,
     /// The same without `<=>`; without `==>`; without `|`.
     Implication,
     MoreImplication,

@@ -3,7 +3,7 @@ use Rattle.std.specs.Prelude.{◌≤◌, ℕ, ◌+◌, max, List, [], ◌∷◌}
 use Rattle.sap_terms.specs.declared.limits.TheConstants.{MOST_PROCESS_LEVELS}
 use Rattle.sap_draft.specs.declared.limits.TheConstants.{FILE_LIMITS}
 use Rattle.sap_expect.specs.declared.wanted.Part.{Part}
-use Rattle.sap_expect.specs.declared.wanted.Part.TheVariants.{Process, Bars, Sequence, Arguments, Then, Else, Term, Application, Terms, MoreTerms, Pair, MoreParts, Equivalence, MoreEquivalence, Implication, MoreImplication, Disjunction, MoreDisjunction, Conjunction, MoreConjunction, Formula, Truth, Atom, UpperAtom, LowerAtom}
+use Rattle.sap_expect.specs.declared.wanted.Part.TheVariants.{Process, Bars, Sequence, Arguments, Then, Else, Term, Application, Terms, MoreTerms, Pair, MoreParts, Equivalence, MoreEquivalence, Ended, Implication, MoreImplication, Disjunction, MoreDisjunction, Conjunction, MoreConjunction, Formula, Truth, Atom, UpperAtom, LowerAtom}
 use Rattle.sap_expect.specs.FileTable.{Open, changed, level, part}
 
 -- the most levels that anything has in a file
@@ -33,6 +33,7 @@ MayStand Disjunction m n = 1 ≤ m
 MayStand Conjunction m n = 1 ≤ m
 MayStand Formula m n = 1 ≤ m
 MayStand MoreEquivalence m n = IsBetween m n
+MayStand Ended m n = IsBetween m n
 MayStand MoreImplication m n = IsBetween m n
 MayStand MoreDisjunction m n = IsBetween m n
 MayStand MoreConjunction m n = IsBetween m n
@@ -62,6 +63,7 @@ MayEnd Disjunction m n = IsBetween m n
 MayEnd Conjunction m n = IsBetween m n
 MayEnd Formula m n = IsBetween m n
 MayEnd MoreEquivalence m n = IsBetween m n
+MayEnd Ended m n = IsBetween m n
 MayEnd MoreImplication m n = IsBetween m n
 MayEnd MoreDisjunction m n = IsBetween m n
 MayEnd MoreConjunction m n = IsBetween m n
