@@ -123,13 +123,13 @@ no_disjunction w e = none_if (is_mark (codes "|") w) _ _ (quiet_of w e).bar refl
 no_conjunction : (w : Word) → is_quiet w ≡ true → row MoreConjunction w ≡ None
 no_conjunction w e = none_if (is_mark (codes "&") w) _ _ (quiet_of w e).no_and refl
 
-no_row_of : {p : Part} (ws : List Word) → ((w : Word) → is_quiet w ≡ true → row p w ≡ None) → QuietWords ws → NoRow p ws
-no_row_of [] f q = q
-no_row_of (w ∷ ws) f q = f w q
+no_row_of : (p : Part) (ws : List Word) → ((w : Word) → is_quiet w ≡ true → row p w ≡ None) → QuietWords ws → NoRow p ws
+no_row_of p [] f q = q
+no_row_of p (w ∷ ws) f q = f w q
 
 -- what ends these parts reads on
 process_reads : {n m : ℕ} {l : Limit} {vs : List Open} (ws : List Word) → QuietWords ws → ((k : ℕ) → Reads k vs ws) → Reads n ((part Process l, m) ∷ vs) (a_zero ∷ ws)
-process_reads ws q h = instead (a_zero ∷ ws) refl refl refl (on_row refl refl (on_level ws (some_word ws q) (instead ws refl refl (no_row_of ws no_bars q) (h 1))))
+process_reads ws q h = instead (a_zero ∷ ws) refl refl refl (on_row refl refl (on_level ws (some_word ws q) (instead ws refl refl (no_row_of Bars ws no_bars q) (h 1))))
 
 formula_reads : {n m : ℕ} {l : Limit} {vs : List Open} (ws : List Word) → NotNone ws → ((k : ℕ) → Reads k vs ws) → Reads n ((part Formula l, m) ∷ vs) (an_empty ∷ mark (codes "=") ∷ an_empty ∷ ws)
 formula_reads ws some h =
@@ -137,19 +137,19 @@ formula_reads ws some h =
 
 conjunction_reads : {n m : ℕ} {l : Limit} {vs : List Open} (ws : List Word) → QuietWords ws → ((k : ℕ) → Reads k vs ws) → Reads n ((part Conjunction l, m) ∷ vs) (an_empty ∷ mark (codes "=") ∷ an_empty ∷ ws)
 conjunction_reads ws q h =
-    instead (an_empty ∷ mark (codes "=") ∷ an_empty ∷ ws) refl refl refl (formula_reads ws (some_word ws q) (λ k. instead ws refl refl (no_row_of ws no_conjunction q) (h k)))
+    instead (an_empty ∷ mark (codes "=") ∷ an_empty ∷ ws) refl refl refl (formula_reads ws (some_word ws q) (λ k. instead ws refl refl (no_row_of MoreConjunction ws no_conjunction q) (h k)))
 
 disjunction_reads : {n m : ℕ} {l : Limit} {vs : List Open} (ws : List Word) → QuietWords ws → ((k : ℕ) → Reads k vs ws) → Reads n ((part Disjunction l, m) ∷ vs) (an_empty ∷ mark (codes "=") ∷ an_empty ∷ ws)
 disjunction_reads ws q h =
-    instead (an_empty ∷ mark (codes "=") ∷ an_empty ∷ ws) refl refl refl (conjunction_reads ws q (λ k. instead ws refl refl (no_row_of ws no_disjunction q) (h k)))
+    instead (an_empty ∷ mark (codes "=") ∷ an_empty ∷ ws) refl refl refl (conjunction_reads ws q (λ k. instead ws refl refl (no_row_of MoreDisjunction ws no_disjunction q) (h k)))
 
 implication_reads : {n m : ℕ} {l : Limit} {vs : List Open} (ws : List Word) → QuietWords ws → ((k : ℕ) → Reads k vs ws) → Reads n ((part Implication l, m) ∷ vs) (an_empty ∷ mark (codes "=") ∷ an_empty ∷ ws)
 implication_reads ws q h =
-    instead (an_empty ∷ mark (codes "=") ∷ an_empty ∷ ws) refl refl refl (disjunction_reads ws q (λ k. instead ws refl refl (no_row_of ws no_implication q) (h k)))
+    instead (an_empty ∷ mark (codes "=") ∷ an_empty ∷ ws) refl refl refl (disjunction_reads ws q (λ k. instead ws refl refl (no_row_of MoreImplication ws no_implication q) (h k)))
 
 equivalence_reads : {n m : ℕ} {l : Limit} {vs : List Open} (ws : List Word) → QuietWords ws → ((k : ℕ) → Reads k vs ws) → Reads n ((part Equivalence l, m) ∷ vs) (an_empty ∷ mark (codes "=") ∷ an_empty ∷ ws)
 equivalence_reads ws q h =
-    instead (an_empty ∷ mark (codes "=") ∷ an_empty ∷ ws) refl refl refl (implication_reads ws q (λ k. instead ws refl refl (no_row_of ws no_equivalence q) (h k)))
+    instead (an_empty ∷ mark (codes "=") ∷ an_empty ∷ ws) refl refl refl (implication_reads ws q (λ k. instead ws refl refl (no_row_of MoreEquivalence ws no_equivalence q) (h k)))
 
 lettered-append : (us ws : List Word) → list_all is_lettered us ≡ true → AreLettered ws → AreLettered (us ++ ws)
 lettered-append [] ws e h = h
@@ -180,11 +180,11 @@ one_end Attribute l m vs h q = by_words Attribute l m h (name (codes "reuse")) (
 one_end MoreAttributes l m vs h q = by_words MoreAttributes l m h (mark (codes "]")) ([]) refl refl (λ n. on_row refl refl (h.reads n))
 one_end Mode l m vs h q = by_words Mode l m h (mark (codes "\"")) (an_empty ∷ mark (codes "=") ∷ an_empty ∷ mark (codes "\"") ∷ []) refl refl (λ n. on_row refl refl (equivalence_reads (mark (codes "\"") ∷ h.words) refl (λ k. on_word refl (h.reads k))))
 one_end Process l m vs h q = by_words Process l m h a_zero ([]) refl refl (λ n. process_reads h.words (h.quiet_words (q refl)) (λ k. h.reads k))
-one_end Bars l m vs h q = by_nothing Bars l m h (λ f. f) (λ n. instead h.words refl refl (no_row_of h.words (λ w. no_bars w) (h.quiet_words (q refl))) (h.reads n))
+one_end Bars l m vs h q = by_nothing Bars l m h (λ f. f) (λ n. instead h.words refl refl (no_row_of Bars h.words (λ w. no_bars w) (h.quiet_words (q refl))) (h.reads n))
 one_end Sequence l m vs h q = by_words Sequence l m h a_zero ([]) refl refl (λ n. on_row refl refl (on_level h.words (some_word h.words (h.quiet_words (q refl))) (h.reads 1)))
-one_end Arguments l m vs h q = by_nothing Arguments l m h (λ f. f) (λ n. instead h.words refl refl (no_row_of h.words (λ w. no_arguments w) (h.quiet_words (q refl))) (on_level h.words (some_word h.words (h.quiet_words (q refl))) (h.reads 1)))
-one_end Then l m vs h q = by_nothing Then l m h (λ f. f) (λ n. instead h.words refl refl (no_row_of h.words (λ w. no_then w) (h.quiet_words (q refl))) (on_level h.words (some_word h.words (h.quiet_words (q refl))) (h.reads 2)))
-one_end Else l m vs h q = by_nothing Else l m h (λ f. f) (λ n. instead h.words refl refl (no_row_of h.words (λ w. no_else w) (h.quiet_words (q refl))) (on_level h.words (some_word h.words (h.quiet_words (q refl))) (h.reads (n + 1))))
+one_end Arguments l m vs h q = by_nothing Arguments l m h (λ f. f) (λ n. instead h.words refl refl (no_row_of Arguments h.words (λ w. no_arguments w) (h.quiet_words (q refl))) (on_level h.words (some_word h.words (h.quiet_words (q refl))) (h.reads 1)))
+one_end Then l m vs h q = by_nothing Then l m h (λ f. f) (λ n. instead h.words refl refl (no_row_of Then h.words (λ w. no_then w) (h.quiet_words (q refl))) (on_level h.words (some_word h.words (h.quiet_words (q refl))) (h.reads 2)))
+one_end Else l m vs h q = by_nothing Else l m h (λ f. f) (λ n. instead h.words refl refl (no_row_of Else h.words (λ w. no_else w) (h.quiet_words (q refl))) (on_level h.words (some_word h.words (h.quiet_words (q refl))) (h.reads (n + 1))))
 one_end NewName l m vs h q = by_words NewName l m h a_name ([]) refl refl (λ n. on_row refl refl (h.reads n))
 one_end Message l m vs h q = by_words Message l m h (mark (codes ")")) ([]) refl refl (λ n. on_row refl refl (h.reads n))
 one_end Facts l m vs h q = by_words Facts l m h (mark (codes "]")) ([]) refl refl (λ n. on_row refl refl (h.reads n))
@@ -194,22 +194,22 @@ one_end Arrow l m vs h q = by_words Arrow l m h (mark (codes "-->")) (mark (code
 one_end Shown l m vs h q = by_words Shown l m h (mark (codes "]->")) ([]) refl refl (λ n. on_row refl refl (h.reads n))
 one_end MoreShown l m vs h q = by_words MoreShown l m h (mark (codes "]->")) ([]) refl refl (λ n. on_row refl refl (h.reads n))
 one_end Term l m vs h q = by_words Term l m h an_empty ([]) refl refl (λ n. on_row refl refl (on_level h.words (some_word h.words (h.quiet_words (q refl))) (h.reads 1)))
-one_end Application l m vs h q = by_nothing Application l m h (λ f. f) (λ n. instead h.words refl refl (no_row_of h.words (λ w. no_terms w) (h.quiet_words (q refl))) (on_level h.words (some_word h.words (h.quiet_words (q refl))) (h.reads 1)))
+one_end Application l m vs h q = by_nothing Application l m h (λ f. f) (λ n. instead h.words refl refl (no_row_of Application h.words (λ w. no_terms w) (h.quiet_words (q refl))) (on_level h.words (some_word h.words (h.quiet_words (q refl))) (h.reads 1)))
 one_end Terms l m vs h q = by_words Terms l m h (mark (codes ")")) ([]) refl refl (λ n. on_row refl refl (on_level h.words (some_word h.words (h.quiet_words (q refl))) (h.reads 0)))
 one_end MoreTerms l m vs h q = by_words MoreTerms l m h (mark (codes ")")) ([]) refl refl (λ n. on_row refl refl (h.reads n))
 one_end Pair l m vs h q = by_words Pair l m h (mark (codes ",")) (an_empty ∷ mark (codes ">") ∷ []) refl refl (λ n. on_row refl refl (on_row refl refl (on_level (mark (codes ">") ∷ h.words) tt (on_row refl refl (on_level h.words (some_word h.words (h.quiet_words (q refl))) (h.reads _))))))
 one_end MoreParts l m vs h q = by_words MoreParts l m h (mark (codes ">")) ([]) refl refl (λ n. on_row refl refl (h.reads n))
 one_end Equivalence l m vs h q = by_words Equivalence l m h an_empty (mark (codes "=") ∷ an_empty ∷ []) refl refl (λ n. equivalence_reads h.words (h.quiet_words (q refl)) (λ k. h.reads k))
-one_end MoreEquivalence l m vs h q = by_nothing MoreEquivalence l m h (λ f. f) (λ n. instead h.words refl refl (no_row_of h.words (λ w. no_equivalence w) (h.quiet_words (q refl))) (h.reads n))
-one_end Ended l m vs h q = by_nothing Ended l m h (λ f. f) (λ n. instead h.words refl refl (no_row_of h.words (λ w. no_third w) (h.quiet_words (q refl))) (h.reads n))
+one_end MoreEquivalence l m vs h q = by_nothing MoreEquivalence l m h (λ f. f) (λ n. instead h.words refl refl (no_row_of MoreEquivalence h.words (λ w. no_equivalence w) (h.quiet_words (q refl))) (h.reads n))
+one_end Ended l m vs h q = by_nothing Ended l m h (λ f. f) (λ n. instead h.words refl refl (no_row_of Ended h.words (λ w. no_third w) (h.quiet_words (q refl))) (h.reads n))
 one_end Implication l m vs h q = by_words Implication l m h an_empty (mark (codes "=") ∷ an_empty ∷ []) refl refl (λ n. implication_reads h.words (h.quiet_words (q refl)) (λ k. h.reads k))
-one_end MoreImplication l m vs h q = by_nothing MoreImplication l m h (λ f. f) (λ n. instead h.words refl refl (no_row_of h.words (λ w. no_implication w) (h.quiet_words (q refl))) (h.reads n))
+one_end MoreImplication l m vs h q = by_nothing MoreImplication l m h (λ f. f) (λ n. instead h.words refl refl (no_row_of MoreImplication h.words (λ w. no_implication w) (h.quiet_words (q refl))) (h.reads n))
 one_end Disjunction l m vs h q = by_words Disjunction l m h an_empty (mark (codes "=") ∷ an_empty ∷ []) refl refl (λ n. disjunction_reads h.words (h.quiet_words (q refl)) (λ k. h.reads k))
-one_end MoreDisjunction l m vs h q = by_nothing MoreDisjunction l m h (λ f. f) (λ n. instead h.words refl refl (no_row_of h.words (λ w. no_disjunction w) (h.quiet_words (q refl))) (h.reads n))
+one_end MoreDisjunction l m vs h q = by_nothing MoreDisjunction l m h (λ f. f) (λ n. instead h.words refl refl (no_row_of MoreDisjunction h.words (λ w. no_disjunction w) (h.quiet_words (q refl))) (h.reads n))
 one_end Conjunction l m vs h q = by_words Conjunction l m h an_empty (mark (codes "=") ∷ an_empty ∷ []) refl refl (λ n. conjunction_reads h.words (h.quiet_words (q refl)) (λ k. h.reads k))
-one_end MoreConjunction l m vs h q = by_nothing MoreConjunction l m h (λ f. f) (λ n. instead h.words refl refl (no_row_of h.words (λ w. no_conjunction w) (h.quiet_words (q refl))) (h.reads n))
+one_end MoreConjunction l m vs h q = by_nothing MoreConjunction l m h (λ f. f) (λ n. instead h.words refl refl (no_row_of MoreConjunction h.words (λ w. no_conjunction w) (h.quiet_words (q refl))) (h.reads n))
 one_end Formula l m vs h q = by_words Formula l m h an_empty (mark (codes "=") ∷ an_empty ∷ []) refl refl (λ n. formula_reads h.words (some_word h.words (h.quiet_words (q refl))) (λ k. h.reads k))
-one_end Truth l m vs h q = by_nothing Truth l m h (λ f. f) (λ n. instead h.words refl refl (no_row_of h.words (λ w. no_value w) (h.quiet_words (q refl))) (on_level h.words (some_word h.words (h.quiet_words (q refl))) (h.reads 1)))
+one_end Truth l m vs h q = by_nothing Truth l m h (λ f. f) (λ n. instead h.words refl refl (no_row_of Truth h.words (λ w. no_value w) (h.quiet_words (q refl))) (on_level h.words (some_word h.words (h.quiet_words (q refl))) (h.reads 1)))
 one_end Atom l m vs h q = by_words Atom l m h an_empty (mark (codes "=") ∷ an_empty ∷ []) refl refl (λ n. on_row refl refl (on_word refl (on_row refl refl (on_level h.words (some_word h.words (h.quiet_words (q refl))) (h.reads _)))))
 one_end UpperAtom l m vs h q = by_words UpperAtom l m h (mark (codes "=")) (an_empty ∷ []) refl refl (λ n. on_row refl refl (on_row refl refl (on_level h.words (some_word h.words (h.quiet_words (q refl))) (h.reads _))))
 one_end LowerAtom l m vs h q = by_words LowerAtom l m h (mark (codes "=")) (an_empty ∷ []) refl refl (λ n. on_row refl refl (on_row refl refl (on_level h.words (some_word h.words (h.quiet_words (q refl))) (h.reads _))))

@@ -113,5 +113,5 @@ mutual
 -- a formula up to its closing quotation mark
 pub quoted_front : {g : Sig} {m : Limits} {f : Form} {a b : List Word} → IsShortFormula g m f a (mark (codes "\"") ∷ b) → Front (Before (IsShortFormula g m f) (mark (codes "\""))) a b
 quoted_front {g = g} {m = m} {f = f} s =
-    before_sign (mark (codes "\"")) (λ c. refl)
+    before_sign {X = IsShortFormula g m f} (mark (codes "\"")) (λ c. refl)
     (front_of [] (iff_front s.spelled) (λ c d p. record { reach = s.reach; levels = s.levels; spelled = p; few_levels = s.few_levels; small = s.small }))

@@ -275,17 +275,21 @@ in_place p us q e h = by (is_open p) e h
     by true f g = closes_more us true q (λ x. f) g
     by false f g = closes_more us false q (λ x. absurd (cc (x))) g
 
+abbrev turn_closes : Bool → Option Turn → Bool
+turn_closes c None = true
+turn_closes c (Some t) = closes_before t.1 c
+
 among_closes : (c : Bool) (rs : List Row) (w : Word) (t : Test) (rest : List Wanted) → list_all (λ (r : Row). closes_before r.2 c) rs ≡ true → row_among rs w ≡ Some (t, rest)
     → closes_before rest c ≡ true
 among_closes c [] w t rest h e = absurd (cc (e))
-among_closes c (r ∷ rs) w t rest h e = by (is_wanted r.0 w) e
+among_closes c (r ∷ rs) w t rest h e =
+    let both = both_true (closes_before r.2 c) (list_all (λ (r : Row). closes_before r.2 c) rs) h in
+    by (is_wanted r.0 w) both.0 (λ f. among_closes c rs w t rest both.1 f) e
   where
-    both = both_true (closes_before r.2 c) (list_all (λ (r : Row). closes_before r.2 c) rs) h
-    by : (b : Bool) → (if b then Some (r.1, r.2) else row_among rs w) ≡ Some (t, rest) → closes_before rest c ≡ true
-    by true f =
-        let these : r.2 ≡ rest = cc (f) in
-        subst (λ (us : List Wanted). closes_before us c ≡ true) these both.0
-    by false f = among_closes c rs w t rest both.1 f
+    by : (b : Bool) → closes_before r.2 c ≡ true → (row_among rs w ≡ Some (t, rest) → closes_before rest c ≡ true) → (if b then Some (r.1, r.2) else row_among rs w) ≡ Some (t, rest)
+        → closes_before rest c ≡ true
+    by true first others f = subst (λ (o : Option Turn). turn_closes c o ≡ true) f first
+    by false first others f = others f
 
 other_in : (p : Part) (o : Option Turn) (t : Test) (other : List Wanted) → other_closes p o ≡ true → o ≡ Some (t, other) → closes_before other (is_open p) ≡ true
 other_in p None t other h e = absurd (cc (e))
