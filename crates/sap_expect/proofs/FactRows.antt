@@ -77,7 +77,7 @@ no_more_facts = record { facts = []; are = λ s. facts_last s }
 more_facts : {g : Sig} {o : Bool} {closing : List ℕ} {f : Fact} {a b c : List Word} → IsShortFact g FILE_LIMITS o f a b → AreMoreFacts g o closing b c → AreMoreFacts g o closing (mark (codes ",") ∷ a) c
 more_facts {f = f} s q = record { facts = f ∷ q.facts; are = λ h. facts_more h (q.are s) }
 
-pub of_facts : Sig → Meaning
+abbrev pub of_facts : Sig → Meaning
 of_facts g AFact m n a k b = (f : Fact) × IsShortFact g FILE_LIMITS true f a b
 of_facts g Facts m n a k b = (fs : List Fact) × AreFacts g FILE_LIMITS true (codes "]") fs a b
 of_facts g MoreFacts m n a k b = AreMoreFacts g true (codes "]") a b
@@ -85,10 +85,10 @@ of_facts g Shown m n a k b = (fs : List Fact) × AreFacts g FILE_LIMITS false (c
 of_facts g MoreShown m n a k b = AreMoreFacts g false (codes "]->") a b
 of_facts g p m n a k b = of_terms g p m n a k b
 
-pub fact_row : {g : Sig} {m n : ℕ} {w : Word} {a : List Word} {k : ℕ} {b : List Word} → AreRow (of_facts g) (rows AFact) m n w a k b → (f : Fact) × IsShortFact g FILE_LIMITS true f (w ∷ a) b
-fact_row (inl (is_capital up, _, (_, _, first is_sign, (_, _, s, same)))) = linear_fact true up s
-fact_row (inr (_, inl (is_sign, _, (_, _, first (is_capital up), (_, _, first is_sign, (_, _, s, same)))))) = persistent_fact up s
-fact_row (inr (_, inr (_, h))) = absurd h
+pub fact_row : {g : Sig} (m n : ℕ) {w : Word} {a : List Word} {k : ℕ} {b : List Word} → AreRow (of_facts g) (rows AFact) m n w a k b → (f : Fact) × IsShortFact g FILE_LIMITS true f (w ∷ a) b
+fact_row m n (inl (is_capital up, _, (_, _, first is_sign, (_, _, s, same)))) = linear_fact true up s
+fact_row m n (inr (_, inl (is_sign, _, (_, _, first (is_capital up), (_, _, first is_sign, (_, _, s, same)))))) = persistent_fact up s
+fact_row m n (inr (_, inr (_, h))) = absurd h
 
 pub facts_row : {g : Sig} (m n : ℕ) {w : Word} {a : List Word} {k : ℕ} {b : List Word} → AreRow (of_facts g) (rows Facts) m n w a k b → (fs : List Fact) × AreFacts g FILE_LIMITS true (codes "]") fs (w ∷ a) b
 facts_row m n (inl (is_sign, _, same)) = (_, facts_none)

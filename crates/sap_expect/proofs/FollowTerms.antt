@@ -24,9 +24,9 @@ use Rattle.sap_expect.proofs.OnRows.{NoRow, NotNone, instead, on_level, on_nth, 
 pub word_there : {n : ℕ} {v : Open} {vs : List Open} {ws : List Word} → Reads n (v ∷ vs) ws → NotNone ws
 word_there (reads_word t r) = tt
 
-pub word_of : {p : Part} (ws : List Word) → NoRow p ws → NotNone ws
-word_of [] never = never
-word_of (w ∷ ws) never = tt
+pub word_of : (p : Part) (ws : List Word) → NoRow p ws → NotNone ws
+word_of p [] never = never
+word_of p (w ∷ ws) never = tt
 
 -- with equally many levels
 pub at : {j k : ℕ} {vs : List Open} {ws : List Word} → j ≡ k → Reads j vs ws → Reads k vs ws
@@ -70,24 +70,24 @@ module _ (r : List Word) where
   name_follows x {n = n} {m = m} {l = l} {vs = vs} b never h = by (is_lower x) refl
     where
       by : (c : Bool) → is_lower x ≡ c → Reads n ((part Term l, m) ∷ vs) (name x ∷ b)
-      by true e = on_row (lower_row x true e) refl (instead b refl refl never (on_level b (word_of b never) h))
-      by false e = on_row (lower_row x false e) refl (on_level b (word_of b never) h)
+      by true e = on_row (lower_row x true e) refl (instead b refl refl never (on_level b (word_of Application b never) h))
+      by false e = on_row (lower_row x false e) refl (on_level b (word_of Application b never) h)
 
   mutual
     pub term_follows : {g : Sig} {t : Tree} {a b : List Word} {n m : ℕ} {l : Limit} {vs : List Open} → IsTerm g t a b → level_count t ≤ m → NoRow Application (b ++ r)
         → Reads (level_count t) vs (b ++ r) → Reads n ((part Term l, m) ∷ vs) (a ++ r)
     term_follows (term_constant {x = x} {a = a} is) le never h = name_follows x (a ++ r) never h
     term_follows (term_message {x = x} {a = a} free) le never h = name_follows x (a ++ r) never h
-    term_follows {b = b} term_fresh le never h = on_row refl refl (on_word refl (on_level (b ++ r) (word_of (b ++ r) never) h))
-    term_follows {b = b} term_pub le never h = on_row refl refl (on_word refl (on_level (b ++ r) (word_of (b ++ r) never) h))
-    term_follows {b = b} term_quoted le never h = on_row refl refl (on_level (b ++ r) (word_of (b ++ r) never) h)
+    term_follows {b = b} term_fresh le never h = on_row refl refl (on_word refl (on_level (b ++ r) (word_of Application (b ++ r) never) h))
+    term_follows {b = b} term_pub le never h = on_row refl refl (on_word refl (on_level (b ++ r) (word_of Application (b ++ r) never) h))
+    term_follows {b = b} term_quoted le never h = on_row refl refl (on_level (b ++ r) (word_of Application (b ++ r) never) h)
     term_follows {b = b} (term_symbol {f = f} {ts = ts} low s) le never h =
-        on_row (lower_row f true low) refl (on_row refl refl (args_follow s (omega (arith, le)) (on_level (b ++ r) (word_of (b ++ r) never) h)))
+        on_row (lower_row f true low) refl (on_row refl refl (args_follow s (omega (arith, le)) (on_level (b ++ r) (word_of Application (b ++ r) never) h)))
     term_follows {b = b} {m = m} (term_tuple {t = t} {u = u} s q) le never h =
         let one = has_level t in
         on_row refl (fits 2 m (omega (arith, le, one)))
         (term_follows s (omega (arith, le)) refl
-        (on_row refl refl (rest_follows q (omega (arith, le)) (on_level (b ++ r) (word_of (b ++ r) never) (at (omega arith) h)))))
+        (on_row refl refl (rest_follows q (omega (arith, le)) (on_level (b ++ r) (word_of Application (b ++ r) never) (at (omega arith) h)))))
 
     -- the parts of a tuple behind its first comma
     pub rest_follows : {g : Sig} {t : Tree} {a b : List Word} {n m : ℕ} {l l' : Limit} {v : Open} {vs : List Open} → IsRest g t a b → level_count t ≤ m → Reads (level_count t) (v ∷ vs) (b ++ r)
