@@ -115,7 +115,7 @@ formula_other {w = w} e (_, (_, _, h, (_, _, is_changed, same))) le =
 pub conjunction_other : {g : Sig} (m n : ℕ) {w : Word} {a : List Word} {k : ℕ} {b : List Word} → AreOther (of_formulas g) (otherwise Conjunction) m n (w ∷ a) k b → 1 ≤ m → Whole (IsAnd g) NoAnd m (w ∷ a) k b
 conjunction_other m n (_, (_, _, s, (_, _, h, same))) le =
     let f = s le in
-    whole_of (one_and f.0) (h f.1)
+    whole_of NoAnd (one_and f.0) (h f.1)
 
 pub more_conjunction_row : {g : Sig} {m n : ℕ} {w : Word} {a : List Word} {k : ℕ} {b : List Word} → AreRow (of_formulas g) (rows MoreConjunction) m n w a k b → IsBetween m n → GoesOn (IsAnd g) (IsAnd g) NoAnd m n (w ∷ a) k b
 more_conjunction_row {m = m} {n = n} (inl (is_sign, goes, (_, _, s, (_, _, is_changed, (_, _, h, same))))) i =
@@ -131,59 +131,59 @@ more_conjunction_other m n {w = w} e (_, same) i = and_alone i (none_begin (rows
 pub disjunction_other : {g : Sig} (m n : ℕ) {w : Word} {a : List Word} {k : ℕ} {b : List Word} → AreOther (of_formulas g) (otherwise Disjunction) m n (w ∷ a) k b → 1 ≤ m → Whole (IsOr g) NoOr m (w ∷ a) k b
 disjunction_other m n (_, (_, _, s, (_, _, h, same))) le =
     let f = s le in
-    whole_of (one_or f.0) (h f.1 f.2)
+    whole_of NoOr (one_or f.0) (h f.1 f.2)
 
 pub more_disjunction_row : {g : Sig} {m n : ℕ} {w : Word} {a : List Word} {k : ℕ} {b : List Word} → AreRow (of_formulas g) (rows MoreDisjunction) m n w a k b → IsBetween m n → NoAnd (w ∷ a) → GoesOn (IsOr g) (IsOr g) NoOr m n (w ∷ a) k b
-more_disjunction_row {m = m} {n = n} (inl (is_sign, goes, (_, _, s, (_, _, is_changed, (_, _, h, same))))) i no =
+more_disjunction_row {m = m} {n = n} (inl (is_sign, goes, (_, _, s, (_, _, is_changed, (_, _, h, same))))) i free =
     let lt = le_of (n + 1) m goes in
     let f = s (omega (arith, i.0, lt)) in
     let few = f.1.1 in
     or_next f.0 (h (omega arith, omega (arith, few, lt)) f.2)
-more_disjunction_row (inr (_, h)) i no = absurd h
+more_disjunction_row (inr (_, h)) i free = absurd h
 
 pub more_disjunction_other : {g : Sig} (m n : ℕ) {w : Word} {a : List Word} {k : ℕ} {b : List Word} → row MoreDisjunction w ≡ None → AreOther (of_formulas g) (otherwise MoreDisjunction) m n (w ∷ a) k b → IsBetween m n → NoAnd (w ∷ a) → GoesOn (IsOr g) (IsOr g) NoOr m n (w ∷ a) k b
-more_disjunction_other m n {w = w} e (_, same) i no = or_alone i (no, (none_begin (rows MoreDisjunction) w e).0)
+more_disjunction_other m n {w = w} e (_, same) i free = or_alone i (free, (none_begin (rows MoreDisjunction) w e).0)
 
 pub implication_other : {g : Sig} (m n : ℕ) {w : Word} {a : List Word} {k : ℕ} {b : List Word} → AreOther (of_formulas g) (otherwise Implication) m n (w ∷ a) k b → 1 ≤ m → Whole (IsImp g) NoImp m (w ∷ a) k b
 implication_other m n (_, (_, _, s, (_, _, h, same))) le =
     let f = s le in
-    whole_of f.0 (h f.1 f.2)
+    whole_of NoImp f.0 (h f.1 f.2)
 
 pub more_implication_row : {g : Sig} {m n : ℕ} {w : Word} {a : List Word} {k : ℕ} {b : List Word} → AreRow (of_formulas g) (rows MoreImplication) m n w a k b → IsBetween m n → NoOr (w ∷ a) → GoesOn (IsOr g) (IsImp g) NoImp m n (w ∷ a) k b
-more_implication_row {m = m} {n = n} (inl (is_sign, goes, (_, _, s, (_, _, is_changed, e)))) i no =
+more_implication_row {m = m} {n = n} (inl (is_sign, goes, (_, _, s, (_, _, is_changed, e)))) i free =
     let lt = le_of (n + 1) m goes in
     imp_end e (imp_next (s (omega (arith, i.0, lt))) lt)
-more_implication_row (inr (_, h)) i no = absurd h
+more_implication_row (inr (_, h)) i free = absurd h
 
 pub more_implication_other : {g : Sig} (m n : ℕ) {w : Word} {a : List Word} {k : ℕ} {b : List Word} → row MoreImplication w ≡ None → AreOther (of_formulas g) (otherwise MoreImplication) m n (w ∷ a) k b → IsBetween m n → NoOr (w ∷ a) → GoesOn (IsOr g) (IsImp g) NoImp m n (w ∷ a) k b
-more_implication_other m n {w = w} e (_, same) i no = imp_alone i (no, (none_begin (rows MoreImplication) w e).0)
+more_implication_other m n {w = w} e (_, same) i free = imp_alone i (free, (none_begin (rows MoreImplication) w e).0)
 
 pub equivalence_other : {g : Sig} (m n : ℕ) {w : Word} {a : List Word} {k : ℕ} {b : List Word} → AreOther (of_formulas g) (otherwise Equivalence) m n (w ∷ a) k b → 1 ≤ m → Whole (IsIff g) NoIff m (w ∷ a) k b
 equivalence_other m n (_, (_, _, s, (_, _, h, same))) le =
     let f = s le in
-    whole_of f.0 (h f.1 f.2)
+    whole_of NoIff f.0 (h f.1 f.2)
 
 -- behind `<=>`
 second_side : {g : Sig} {m n j : ℕ} {a b : List Word} {k : ℕ} {c : List Word} → Whole (IsImp g) NoImp (m - 1) a j b → n + 1 ≤ m → IsEnded (max n j + 1) b k c
     → GoesOn (IsImp g) (IsIff g) NoIff m n (mark (codes "<=>") ∷ a) k c
-second_side f lt (ended no) = iff_next f no lt
+second_side f lt (ended free) = iff_next f free lt
 
 pub more_equivalence_row : {g : Sig} {m n : ℕ} {w : Word} {a : List Word} {k : ℕ} {b : List Word} → AreRow (of_formulas g) (rows MoreEquivalence) m n w a k b → IsBetween m n → NoImp (w ∷ a) → GoesOn (IsImp g) (IsIff g) NoIff m n (w ∷ a) k b
-more_equivalence_row {m = m} {n = n} (inl (is_sign, goes, (_, _, s, (_, _, is_changed, (_, _, h, same))))) i no =
+more_equivalence_row {m = m} {n = n} (inl (is_sign, goes, (_, _, s, (_, _, is_changed, (_, _, h, same))))) i free =
     let lt = le_of (n + 1) m goes in
     let f = s (omega (arith, i.0, lt)) in
     second_side f lt (h f.2)
-more_equivalence_row (inr (_, h)) i no = absurd h
+more_equivalence_row (inr (_, h)) i free = absurd h
 
 pub more_equivalence_other : {g : Sig} (m n : ℕ) {w : Word} {a : List Word} {k : ℕ} {b : List Word} → row MoreEquivalence w ≡ None → AreOther (of_formulas g) (otherwise MoreEquivalence) m n (w ∷ a) k b → IsBetween m n → NoImp (w ∷ a) → GoesOn (IsImp g) (IsIff g) NoIff m n (w ∷ a) k b
-more_equivalence_other m n {w = w} e (_, same) i no = iff_alone i (no, (none_begin (rows MoreEquivalence) w e).0)
+more_equivalence_other m n {w = w} e (_, same) i free = iff_alone i (free, (none_begin (rows MoreEquivalence) w e).0)
 
-pub ended_row : {g : Sig} (m n : ℕ) {w : Word} {a : List Word} {k : ℕ} {b : List Word} → AreRow (of_formulas g) (rows Ended) m n w a k b → NoImp (w ∷ a) → IsEnded n (w ∷ a) k b
-ended_row m n (inl (is_sign, never, same)) no = absurd (cc)
-ended_row m n (inr (_, h)) no = absurd h
+pub ended_row : (g : Sig) (m n : ℕ) {w : Word} {a : List Word} {k : ℕ} {b : List Word} → AreRow (of_formulas g) (rows Ended) m n w a k b → NoImp (w ∷ a) → IsEnded n (w ∷ a) k b
+ended_row g m n (inl (is_sign, never, same)) free = absurd (cc)
+ended_row g m n (inr (_, h)) free = absurd h
 
-pub ended_other : {g : Sig} (m n : ℕ) {w : Word} {a : List Word} {k : ℕ} {b : List Word} → row Ended w ≡ None → AreOther (of_formulas g) (otherwise Ended) m n (w ∷ a) k b → NoImp (w ∷ a) → IsEnded n (w ∷ a) k b
-ended_other m n {w = w} e (_, same) no = ended (no, (none_begin (rows Ended) w e).0)
+pub ended_other : (g : Sig) (m n : ℕ) {w : Word} {a : List Word} {k : ℕ} {b : List Word} → row Ended w ≡ None → AreOther (of_formulas g) (otherwise Ended) m n (w ∷ a) k b → NoImp (w ∷ a) → IsEnded n (w ∷ a) k b
+ended_other g m n {w = w} e (_, same) free = ended (free, (none_begin (rows Ended) w e).0)
 
 pub truth_row : {g : Sig} {m n : ℕ} {w : Word} {a : List Word} {k : ℕ} {b : List Word} → AreRow (of_formulas g) (rows Truth) m n w a k b → IsBehindTruth g (w ∷ a) k b
 truth_row (inl (is_sign, _, (_, _, s, (_, _, first is_sign, (_, _, t, (_, _, is_changed, same)))))) = truth_fact s.are (small_args s (omega arith)) t.1
@@ -193,32 +193,32 @@ pub truth_other : {g : Sig} (m n : ℕ) {w : Word} {a : List Word} {k : ℕ} {b 
 truth_other m n {w = w} e (_, (_, _, is_changed, same)) = truth_alone (none_begin (rows Truth) w e).0
 
 pub atom_row : {g : Sig} {m n : ℕ} {w : Word} {a : List Word} {k : ℕ} {b : List Word} → IsLettered w → AreRow (of_formulas g) (rows Atom) m n w a k b → 1 ≤ m → m ≤ FILE_LIMITS.term_levels → is_truth w ≡ false → SomeAtom g (w ∷ a) b
-atom_row l (inl (is_capital {x = x} up, _, (_, _, h, same))) le few no = h le few x up no
-atom_row l (inr (f, inl (is_any {x = x}, _, (_, _, h, same)))) le few no = h le few x (lower_of (is_lower x) (is_upper x) l f) no
-atom_row l (inr (_, inr (_, inl (is_sign, _, (_, _, first is_any, (_, _, h, same)))))) le few no = h _
-atom_row l (inr (_, inr (_, inr (_, inl (is_quoted, _, (_, _, first is_sign, (_, _, s, same))))))) le few no =
+atom_row l (inl (is_capital {x = x} up, _, (_, _, h, same))) le few never = h le few x up never
+atom_row l (inr (f, inl (is_any {x = x}, _, (_, _, h, same)))) le few never = h le few x (lower_of (is_lower x) (is_upper x) l f) never
+atom_row l (inr (_, inr (_, inl (is_sign, _, (_, _, first is_any, (_, _, h, same)))))) le few never = h _
+atom_row l (inr (_, inr (_, inr (_, inl (is_quoted, _, (_, _, first is_sign, (_, _, s, same))))))) le few never =
     equal_atom few few refl (record { tree = _; is = term_quoted; levels = refl; fits = (omega arith, le) }) (s le)
-atom_row l (inr (_, inr (_, inr (_, inr (_, inl (is_sign, _, (_, _, first is_any, (_, _, first is_sign, (_, _, s, same))))))))) le few no =
+atom_row l (inr (_, inr (_, inr (_, inr (_, inl (is_sign, _, (_, _, first is_any, (_, _, first is_sign, (_, _, s, same))))))))) le few never =
     equal_atom few few refl (record { tree = _; is = term_fresh; levels = refl; fits = (omega arith, le) }) (s le)
-atom_row l (inr (_, inr (_, inr (_, inr (_, inr (_, inl (is_sign, _, (_, _, first is_any, (_, _, first is_sign, (_, _, s, same)))))))))) le few no =
+atom_row l (inr (_, inr (_, inr (_, inr (_, inr (_, inl (is_sign, _, (_, _, first is_any, (_, _, first is_sign, (_, _, s, same)))))))))) le few never =
     equal_atom few few refl (record { tree = _; is = term_pub; levels = refl; fits = (omega arith, le) }) (s le)
-atom_row {m = m} {a = a} l (inr (_, inr (_, inr (_, inr (_, inr (_, inr (_, inl (is_sign, room, (_, _, s, (_, _, h, (_, _, first is_sign, (_, _, q, same)))))))))))) le few no =
+atom_row {m = m} {a = a} l (inr (_, inr (_, inr (_, inr (_, inr (_, inr (_, inl (is_sign, room, (_, _, s, (_, _, h, (_, _, first is_sign, (_, _, q, same)))))))))))) le few never =
     let two = le_of 2 m room in
     let t = s (omega (arith, two)) in
     let less = t.fits.1 in
     equal_atom few few (no_truth (not (starts (codes "(") a)) false refl) (tuple_term t (h (t.fits.0, omega (arith, less, two)))) (q le)
-atom_row l (inr (_, inr (_, inr (_, inr (_, inr (_, inr (_, inr (_, h)))))))) le few no = absurd h
+atom_row l (inr (_, inr (_, inr (_, inr (_, inr (_, inr (_, inr (_, h)))))))) le few never = absurd h
 
 pub upper_row : {g : Sig} {m n : ℕ} {w : Word} {a : List Word} {k : ℕ} {b : List Word} → AreRow (of_formulas g) (rows UpperAtom) m n w a k b → 1 ≤ m → m ≤ FILE_LIMITS.term_levels → IsBehindUpper g (w ∷ a) b
-upper_row (inl (is_sign, _, (_, _, s, (_, _, first is_sign, (_, _, t, same))))) le few = λ x up no. action_atom few up s t.1
-upper_row (inr (_, inl (is_sign, _, (_, _, s, same)))) le few = λ x up no. equal_atom few few no (name_term x le) (s le)
-upper_row (inr (_, inr (_, inl (is_sign, _, (_, _, t, same))))) le few = λ x up no. (_, atom_earlier no time_plain t.1, tt)
+upper_row (inl (is_sign, _, (_, _, s, (_, _, first is_sign, (_, _, t, same))))) le few = λ x up never. action_atom few up s t.1
+upper_row (inr (_, inl (is_sign, _, (_, _, s, same)))) le few = λ x up never. equal_atom few few never (name_term x le) (s le)
+upper_row (inr (_, inr (_, inl (is_sign, _, (_, _, t, same))))) le few = λ x up never. (_, atom_earlier never time_plain t.1, tt)
 upper_row (inr (_, inr (_, inr (_, h)))) le few = absurd h
 
 pub lower_row : {g : Sig} {m n : ℕ} {w : Word} {a : List Word} {k : ℕ} {b : List Word} → AreRow (of_formulas g) (rows LowerAtom) m n w a k b → 1 ≤ m → m ≤ FILE_LIMITS.term_levels → IsBehindLower g (w ∷ a) b
-lower_row (inl (is_sign, _, (_, _, s, (_, _, first is_sign, (_, _, q, same))))) le few = λ x low no. equal_atom few few refl (symbol_term low le s) (q le)
-lower_row (inr (_, inl (is_sign, _, (_, _, s, same)))) le few = λ x low no. equal_atom few few no (name_term x le) (s le)
-lower_row (inr (_, inr (_, inl (is_sign, _, (_, _, t, same))))) le few = λ x low no. (_, atom_earlier no time_plain t.1, tt)
+lower_row (inl (is_sign, _, (_, _, s, (_, _, first is_sign, (_, _, q, same))))) le few = λ x low never. equal_atom few few refl (symbol_term low le s) (q le)
+lower_row (inr (_, inl (is_sign, _, (_, _, s, same)))) le few = λ x low never. equal_atom few few never (name_term x le) (s le)
+lower_row (inr (_, inr (_, inl (is_sign, _, (_, _, t, same))))) le few = λ x low never. (_, atom_earlier never time_plain t.1, tt)
 lower_row (inr (_, inr (_, inr (_, h)))) le few = absurd h
 
 pub times_row : {g : Sig} (m n : ℕ) {w : Word} {a : List Word} {k : ℕ} {b : List Word} → AreRow (of_formulas g) (rows Times) m n w a k b → IsBehindTime g (w ∷ a) b

@@ -54,21 +54,21 @@ abbrev pub GoesOn : KindOf → KindOf → (List Word → Type 0) → ℕ → ℕ
 GoesOn R S No m n a k b = ((x : List Word) → Some R x n a → Some S x k b) × IsBetween m k × No b
 
 -- a whole one of what begins it and what goes on with it
-pub whole_of : {R S : KindOf} {No : List Word → Type 0} {m j k : ℕ} {a b c : List Word} → Some R a j b → GoesOn R S No m j b k c → Whole S No m a k c
-whole_of s h = (h.0 _ s, h.1, h.2)
+pub whole_of : (No : List Word → Type 0) {R S : KindOf} {m j k : ℕ} {a b c : List Word} → Some R a j b → GoesOn R S No m j b k c → Whole S No m a k c
+whole_of No s h = (h.0 _ s, h.1, h.2)
 
 -- nothing goes on with it
 pub and_alone : {g : Sig} {m n : ℕ} {a : List Word} → IsBetween m n → NoAnd a → GoesOn (IsAnd g) (IsAnd g) NoAnd m n a n a
-and_alone i no = (λ x s. s, i, no)
+and_alone i free = (λ x s. s, i, free)
 
 pub or_alone : {g : Sig} {m n : ℕ} {a : List Word} → IsBetween m n → NoOr a → GoesOn (IsOr g) (IsOr g) NoOr m n a n a
-or_alone i no = (λ x s. s, i, no)
+or_alone i free = (λ x s. s, i, free)
 
 pub imp_alone : {g : Sig} {m n : ℕ} {a : List Word} → IsBetween m n → NoImp a → GoesOn (IsOr g) (IsImp g) NoImp m n a n a
-imp_alone i no = (λ x s. record { reach = s.reach; form = s.form; is = imp_one s.is; small = s.small; ends = s.ends }, i, no)
+imp_alone i free = (λ x s. record { reach = s.reach; form = s.form; is = imp_one s.is; small = s.small; ends = s.ends }, i, free)
 
 pub iff_alone : {g : Sig} {m n : ℕ} {a : List Word} → IsBetween m n → NoIff a → GoesOn (IsImp g) (IsIff g) NoIff m n a n a
-iff_alone i no = (λ x s. record { reach = s.reach; form = s.form; is = iff_one s.is; small = s.small; ends = s.ends }, i, no)
+iff_alone i free = (λ x s. record { reach = s.reach; form = s.form; is = iff_one s.is; small = s.small; ends = s.ends }, i, free)
 
 pub one_and : {g : Sig} {a : List Word} {k : ℕ} {b : List Word} → Some (IsUn g) a k b → Some (IsAnd g) a k b
 one_and s = record { reach = s.reach; form = s.form; is = and_one s.is; small = s.small; ends = s.ends }
@@ -129,9 +129,9 @@ imp_next h le =
     (λ x l. with_imp l h.0, (omega arith, omega (arith, few, le)), h.2)
 
 pub iff_next : {g : Sig} {m n j : ℕ} {b c : List Word} → Whole (IsImp g) NoImp (m - 1) b j c → NoIff c → n + 1 ≤ m → GoesOn (IsImp g) (IsIff g) NoIff m n (mark (codes "<=>") ∷ b) (max n j + 1) c
-iff_next h no le =
+iff_next h free le =
     let few = h.1.1 in
-    (λ x l. with_iff l h.0, (omega arith, omega (arith, few, le)), no)
+    (λ x l. with_iff l h.0, (omega arith, omega (arith, few, le)), free)
 
 -- nothing goes on with the second side of an equivalence
 pub data IsEnded (n : ℕ) (a : List Word) : ℕ → List Word → Type 0 where
