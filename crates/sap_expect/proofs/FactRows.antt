@@ -12,9 +12,8 @@ use Rattle.sap_grammar.specs.FactGrammar.{AreFacts, AreSomeFacts, IsShortFact, f
 use Rattle.sap_draft.specs.declared.limits.TheConstants.{FILE_LIMITS}
 use Rattle.sap_expect.specs.declared.wanted.Part.TheVariants.{Fact as AFact, Facts, MoreFacts, MoreShown, Shown}
 use Rattle.sap_expect.specs.FileTable.{otherwise, rows}
-use Rattle.sap_expect.specs.code.Levels.{IsBetween}
 use Rattle.sap_expect.proofs.Meant.{AreOther, AreRow, Meaning, first, is_capital, is_sign, same}
-use Rattle.sap_expect.proofs.MeantTerms.{AreMoreTerms, SomeArgs, SomeTerm}
+use Rattle.sap_expect.proofs.MeantTerms.{IsBetween, AreMoreTerms, SomeArgs, SomeTerm}
 use Rattle.sap_expect.proofs.TermRows.{of_terms}
 
 -- the most levels of a file's terms

@@ -252,28 +252,20 @@ module _ (r : List Word) where
         and_follows p (omega (arith, le)) small.0 (closed_behind (record { no_terms = refl; no_fact = refl }))
         (on_row refl (fits (i + 1) m (omega (arith, le))) (un_follows q (omega (arith, le)) small.1 o (on_level (c ++ r) (word_there h) h)))
 
-    conjunction_follows : {g : Sig} {e : Reach} {f : Form} {k : ℕ} {a b : List Word} {n m : ℕ} {l : Limit} {vs : List Open} → IsAnd g e f k a b → k ≤ m → IsSmallForm FILE_LIMITS f → Behind e (b ++ r)
-        → NoRow MoreConjunction (b ++ r) → Reads k vs (b ++ r) → Reads n ((part Conjunction l, m) ∷ vs) (a ++ r)
-    conjunction_follows {b = b} q le small o not_and h = a_conjunction (and_follows q le small o (instead (b ++ r) refl refl not_and h))
-
     or_follows : {g : Sig} {e : Reach} {f : Form} {k : ℕ} {a b : List Word} {n m : ℕ} {vs : List Open} → IsOr g e f k a b → k ≤ m → IsSmallForm FILE_LIMITS f → Behind e (b ++ r)
         → NoRow MoreConjunction (b ++ r) → Reads k ((part MoreDisjunction Same, m) ∷ vs) (b ++ r) → Reads n ((part Conjunction Same, m) ∷ (part MoreDisjunction Same, m) ∷ vs) (a ++ r)
-    or_follows (or_one q) le small o not_and h = conjunction_follows q le small o not_and h
+    or_follows {b = b} (or_one q) le small o not_and h = a_conjunction (and_follows q le small o (instead (b ++ r) refl refl not_and h))
     or_follows {b = c} {m = m} (or_more {n = i} p q) le small o not_and h =
         or_follows p (omega (arith, le)) small.0 (closed_behind (record { no_terms = refl; no_fact = refl })) refl
-        (on_row refl (fits (i + 1) m (omega (arith, le))) (conjunction_follows q (omega (arith, le)) small.1 o not_and (on_level (c ++ r) (word_there h) h)))
-
-    disjunction_follows : {g : Sig} {e : Reach} {f : Form} {k : ℕ} {a b : List Word} {n m : ℕ} {l : Limit} {vs : List Open} → IsOr g e f k a b → k ≤ m → IsSmallForm FILE_LIMITS f → Behind e (b ++ r)
-        → NoRow MoreConjunction (b ++ r) → NoRow MoreDisjunction (b ++ r) → Reads k vs (b ++ r) → Reads n ((part Disjunction l, m) ∷ vs) (a ++ r)
-    disjunction_follows {b = b} q le small o not_and not_or h = a_disjunction (or_follows q le small o not_and (instead (b ++ r) refl refl not_or h))
+        (on_row refl (fits (i + 1) m (omega (arith, le))) (a_conjunction (and_follows q (omega (arith, le)) small.1 o (instead (c ++ r) refl refl not_and (on_level (c ++ r) (word_there h) h)))))
 
     imp_follows : {g : Sig} {e : Reach} {f : Form} {k : ℕ} {a b : List Word} {n m : ℕ} {l : Limit} {vs : List Open} → IsImp g e f k a b → k ≤ m → IsSmallForm FILE_LIMITS f → Behind e (b ++ r)
         → NoRow MoreConjunction (b ++ r) → NoRow MoreDisjunction (b ++ r) → NoRow MoreImplication (b ++ r) → Reads k vs (b ++ r) → Reads n ((part Implication l, m) ∷ vs) (a ++ r)
-    imp_follows {b = b} (imp_one q) le small o not_and not_or not_imp h = an_implication (disjunction_follows q le small o not_and not_or (instead (b ++ r) refl refl not_imp h))
-    imp_follows {b = c} {m = m} (imp_more {n = i} p q) le small o not_and not_or not_imp h =
-        an_implication (disjunction_follows p (omega (arith, le)) small.0 (closed_behind (record { no_terms = refl; no_fact = refl })) refl refl
-        (on_row refl (fits (i + 1) m (omega (arith, le)))
-        (imp_follows q (omega (arith, le)) small.1 o not_and not_or not_imp (on_level (c ++ r) (word_of Application (c ++ r) o.free.no_terms) h))))
+    imp_follows {b = b} (imp_one q) le small o not_and not_or not_imp h = an_implication (a_disjunction (or_follows q le small o not_and (instead (b ++ r) refl refl not_or (instead (b ++ r) refl refl not_imp h))))
+    imp_follows {b = c} {m = m} (imp_more {n = i} {b = b} p q) le small o not_and not_or not_imp h =
+        an_implication (a_disjunction (or_follows p (omega (arith, le)) small.0 (closed_behind (record { no_terms = refl; no_fact = refl })) refl
+        (instead (mark (codes "==>") ∷ (b ++ r)) refl refl refl (on_row refl (fits (i + 1) m (omega (arith, le)))
+        (imp_follows q (omega (arith, le)) small.1 o not_and not_or not_imp (on_level (c ++ r) (word_of Application (c ++ r) o.free.no_terms) h))))))
 
     -- a whole formula
     pub iff_follows : {g : Sig} {e : Reach} {f : Form} {k : ℕ} {a b : List Word} {n m : ℕ} {l : Limit} {vs : List Open} → IsIff g e f k a b → k ≤ m → IsSmallForm FILE_LIMITS f → IsFree (b ++ r) → Ends (b ++ r)

@@ -11,9 +11,8 @@ use Rattle.sap_draft.specs.declared.limits.TheConstants.{FILE_LIMITS}
 use Rattle.sap_expect.specs.declared.wanted.Part.TheVariants.{Atom, Binders, Conjunction, Disjunction, Ended, Equivalence, Formula, Implication, LowerAtom, MoreBinders, MoreConjunction, MoreDisjunction, MoreEquivalence, MoreImplication, Time, Times, Truth, UpperAtom}
 use Rattle.sap_expect.specs.FileTable.{Row, is_wanted, otherwise, row, row_among, rows}
 use Rattle.sap_expect.specs.Letters.{IsLettered}
-use Rattle.sap_expect.specs.code.Levels.{IsBetween}
 use Rattle.sap_expect.proofs.Meant.{AreOther, AreRow, Meaning, Same, first, is_any, is_capital, is_changed, is_named, is_quoted, is_sign, same}
-use Rattle.sap_expect.proofs.MeantTerms.{SomeTerm, name_term, symbol_term, tuple_term}
+use Rattle.sap_expect.proofs.MeantTerms.{IsBetween, SomeTerm, name_term, symbol_term, tuple_term}
 use Rattle.sap_expect.proofs.FactRows.{of_facts, small_args}
 use Rattle.sap_expect.proofs.MeantFormulas.{AreMoreBinders, GoesOn, IsBehindLower, IsBehindTime, IsBehindTruth, IsBehindUpper, IsEnded, NoAnd, NoIff, NoImp, NoOr, Some as SomeForm, SomeAtom, SomeBinders, SomeTime, Whole, action_atom, and_alone, and_next, atom_of, binders_end, binders_next, binders_of, ended, equal_atom, every_of, exists_of, false_of, group_of, iff_alone, iff_next, imp_alone, imp_next, no_truth, not_of, one_and, one_or, or_alone, or_next, true_of, truth_alone, truth_fact, whole_of}
 
@@ -185,9 +184,9 @@ ended_row g m n (inr (_, h)) free = absurd h
 pub ended_other : (g : Sig) (m n : ℕ) {w : Word} {a : List Word} {k : ℕ} {b : List Word} → row Ended w ≡ None → AreOther (of_formulas g) (otherwise Ended) m n (w ∷ a) k b → NoImp (w ∷ a) → IsEnded n (w ∷ a) k b
 ended_other g m n {w = w} e (_, same) free = ended (free, (none_begin (rows Ended) w e).0)
 
-pub truth_row : {g : Sig} {m n : ℕ} {w : Word} {a : List Word} {k : ℕ} {b : List Word} → AreRow (of_formulas g) (rows Truth) m n w a k b → IsBehindTruth g (w ∷ a) k b
-truth_row (inl (is_sign, _, (_, _, s, (_, _, first is_sign, (_, _, t, (_, _, is_changed, same)))))) = truth_fact s.are (small_args s (omega arith)) t.1
-truth_row (inr (_, h)) = absurd h
+pub truth_row : {g : Sig} (m n : ℕ) {w : Word} {a : List Word} {k : ℕ} {b : List Word} → AreRow (of_formulas g) (rows Truth) m n w a k b → IsBehindTruth g (w ∷ a) k b
+truth_row m n (inl (is_sign, _, (_, _, s, (_, _, first is_sign, (_, _, t, (_, _, is_changed, same)))))) = truth_fact s.are (small_args s (omega arith)) t.1
+truth_row m n (inr (_, h)) = absurd h
 
 pub truth_other : {g : Sig} (m n : ℕ) {w : Word} {a : List Word} {k : ℕ} {b : List Word} → row Truth w ≡ None → AreOther (of_formulas g) (otherwise Truth) m n (w ∷ a) k b → IsBehindTruth g (w ∷ a) k b
 truth_other m n {w = w} e (_, (_, _, is_changed, same)) = truth_alone (none_begin (rows Truth) w e).0
@@ -209,17 +208,17 @@ atom_row {m = m} {a = a} l (inr (_, inr (_, inr (_, inr (_, inr (_, inr (_, inl 
     equal_atom few few (no_truth (not (starts (codes "(") a)) false refl) (tuple_term t (h (t.fits.0, omega (arith, less, two)))) (q le)
 atom_row l (inr (_, inr (_, inr (_, inr (_, inr (_, inr (_, inr (_, h)))))))) le few never = absurd h
 
-pub upper_row : {g : Sig} {m n : ℕ} {w : Word} {a : List Word} {k : ℕ} {b : List Word} → AreRow (of_formulas g) (rows UpperAtom) m n w a k b → 1 ≤ m → m ≤ FILE_LIMITS.term_levels → IsBehindUpper g (w ∷ a) b
-upper_row (inl (is_sign, _, (_, _, s, (_, _, first is_sign, (_, _, t, same))))) le few = λ x up never. action_atom few up s t.1
-upper_row (inr (_, inl (is_sign, _, (_, _, s, same)))) le few = λ x up never. equal_atom few few never (name_term x le) (s le)
-upper_row (inr (_, inr (_, inl (is_sign, _, (_, _, t, same))))) le few = λ x up never. (_, atom_earlier never time_plain t.1, tt)
-upper_row (inr (_, inr (_, inr (_, h)))) le few = absurd h
+pub upper_row : {g : Sig} {m : ℕ} (n : ℕ) {w : Word} {a : List Word} {k : ℕ} {b : List Word} → AreRow (of_formulas g) (rows UpperAtom) m n w a k b → 1 ≤ m → m ≤ FILE_LIMITS.term_levels → IsBehindUpper g (w ∷ a) b
+upper_row n (inl (is_sign, _, (_, _, s, (_, _, first is_sign, (_, _, t, same))))) le few = λ x up never. action_atom few up s t.1
+upper_row n (inr (_, inl (is_sign, _, (_, _, s, same)))) le few = λ x up never. equal_atom few few never (name_term x le) (s le)
+upper_row n (inr (_, inr (_, inl (is_sign, _, (_, _, t, same))))) le few = λ x up never. (_, atom_earlier never time_plain t.1, tt)
+upper_row n (inr (_, inr (_, inr (_, h)))) le few = absurd h
 
-pub lower_row : {g : Sig} {m n : ℕ} {w : Word} {a : List Word} {k : ℕ} {b : List Word} → AreRow (of_formulas g) (rows LowerAtom) m n w a k b → 1 ≤ m → m ≤ FILE_LIMITS.term_levels → IsBehindLower g (w ∷ a) b
-lower_row (inl (is_sign, _, (_, _, s, (_, _, first is_sign, (_, _, q, same))))) le few = λ x low never. equal_atom few few refl (symbol_term low le s) (q le)
-lower_row (inr (_, inl (is_sign, _, (_, _, s, same)))) le few = λ x low never. equal_atom few few never (name_term x le) (s le)
-lower_row (inr (_, inr (_, inl (is_sign, _, (_, _, t, same))))) le few = λ x low never. (_, atom_earlier never time_plain t.1, tt)
-lower_row (inr (_, inr (_, inr (_, h)))) le few = absurd h
+pub lower_row : {g : Sig} {m : ℕ} (n : ℕ) {w : Word} {a : List Word} {k : ℕ} {b : List Word} → AreRow (of_formulas g) (rows LowerAtom) m n w a k b → 1 ≤ m → m ≤ FILE_LIMITS.term_levels → IsBehindLower g (w ∷ a) b
+lower_row n (inl (is_sign, _, (_, _, s, (_, _, first is_sign, (_, _, q, same))))) le few = λ x low never. equal_atom few few refl (symbol_term low le s) (q le)
+lower_row n (inr (_, inl (is_sign, _, (_, _, s, same)))) le few = λ x low never. equal_atom few few never (name_term x le) (s le)
+lower_row n (inr (_, inr (_, inl (is_sign, _, (_, _, t, same))))) le few = λ x low never. (_, atom_earlier never time_plain t.1, tt)
+lower_row n (inr (_, inr (_, inr (_, h)))) le few = absurd h
 
 pub times_row : {g : Sig} (m n : ℕ) {w : Word} {a : List Word} {k : ℕ} {b : List Word} → AreRow (of_formulas g) (rows Times) m n w a k b → IsBehindTime g (w ∷ a) b
 times_row m n (inl (is_sign, _, (_, _, first is_sign, (_, _, first is_any, same)))) = λ i. (_, atom_same, tt)

@@ -11,8 +11,7 @@ use Rattle.sap_grammar.specs.TermGrammar.{IsArgs, term_fresh, term_pub, term_quo
 use Rattle.sap_grammar.specs.FactGrammar.{fact_linear}
 use Rattle.sap_formula_grammar.specs.FormulaGrammar.{AreBinders, IsAnd, IsAtom, IsBinder, IsIff, IsImp, IsOr, IsSmallForm, IsTime, IsUn, Reach, and_more, and_one, atom_action, atom_earlier, atom_equal, atom_false, atom_same, atom_true, begins_truth, binders_last, binders_more, closed, iff_more, iff_one, imp_more, imp_one, is_truth, or_more, or_one, reaching, time_plain, time_signed, un_atom, un_every, un_exists, un_not, un_parentheses}
 use Rattle.sap_draft.specs.declared.limits.TheConstants.{FILE_LIMITS}
-use Rattle.sap_expect.specs.code.Levels.{IsBetween}
-use Rattle.sap_expect.proofs.MeantTerms.{SomeArgs, SomeTerm, name_term, symbol_term}
+use Rattle.sap_expect.proofs.MeantTerms.{IsBetween, SomeArgs, SomeTerm, name_term, symbol_term}
 use Rattle.sap_expect.proofs.FactRows.{small_args, small_of}
 
 -- no sign stands next that joins two formulas: no `&`; nor `|`; nor `==>`; nor `<=>`

@@ -5,7 +5,10 @@ use Rattle.sap_terms.specs.Signature.{Sig, arity_of}
 use Rattle.sap_terms.specs.Tree.{Tree, level_count, trees_levels, trees_of}
 use Rattle.sap_grammar.specs.Words.{Word, is_lower, mark, name}
 use Rattle.sap_grammar.specs.TermGrammar.{IsArgs, IsConstant, IsList, IsRest, IsTerm, args_none, args_some, list_last, list_more, pair, rest_last, rest_more, term_constant, term_message, term_symbol, term_tuple}
-use Rattle.sap_expect.specs.code.Levels.{IsBetween}
+
+-- what has k levels has one, and at most m
+abbrev pub IsBetween : ℕ → ℕ → Type 0
+IsBetween m k = (1 ≤ k) × (k ≤ m)
 
 -- a term of k levels, and of at most m
 pub record SomeTerm (g : Sig) (m : ℕ) (a : List Word) (k : ℕ) (b : List Word) : Type 0 where

@@ -7,9 +7,8 @@ use Rattle.sap_grammar.proofs.ReadingLaws.Limits.{le_of}
 use Rattle.sap_grammar.specs.TermGrammar.{args_none, list_last, rest_last, term_fresh, term_pub, term_quoted}
 use Rattle.sap_expect.specs.declared.wanted.Part.TheVariants.{Application, Term, Terms, MoreTerms, MoreParts, Pair}
 use Rattle.sap_expect.specs.FileTable.{otherwise, rows}
-use Rattle.sap_expect.specs.code.Levels.{IsBetween, MayStand}
 use Rattle.sap_expect.proofs.Meant.{AreOther, AreRow, Meaning, ends_there, first, is_any, is_changed, is_quoted, is_sign, is_small, same}
-use Rattle.sap_expect.proofs.MeantTerms.{AreMoreParts, AreMoreTerms, IsBehindFirst, IsBehindName, SomeArgs, SomeTerm, behind_first, more_parts, more_terms, name_term, some_args, symbol_term, tuple_term}
+use Rattle.sap_expect.proofs.MeantTerms.{IsBetween, AreMoreParts, AreMoreTerms, IsBehindFirst, IsBehindName, SomeArgs, SomeTerm, behind_first, more_parts, more_terms, name_term, some_args, symbol_term, tuple_term}
 
 abbrev pub of_terms : Sig → Meaning
 of_terms g Term m n a k b = 1 ≤ m → SomeTerm g m a k b

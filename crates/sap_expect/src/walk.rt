@@ -1,12 +1,11 @@
 //! The first word of a file that is wrong by the table of its words.
-ghost use Rattle.std.specs.Prelude.{◌≡◌, ◌≤◌, ◌<◌, [], ◌∷◌, ◌++◌, true, false, IfOk, OnOk, MatchOption, map};
+ghost use Rattle.std.specs.Prelude.{◌≡◌, ◌+◌, [], ◌∷◌, ◌++◌, true, false, IfOk, OnOk, MatchOption, map};
 ghost use Rattle.std.specs.Option.{option_copied};
 ghost use Rattle.sap_text.specs.declared.token.Token.{Token};
 ghost use Rattle.sap_grammar.specs.Words.{is_lower, is_upper, word_of, words_of};
 ghost use Rattle.sap_expect.specs.declared.wanted.Limit.{Limit};
 ghost use Rattle.sap_expect.specs.FileTable.{part as part_of, FollowsTable, all_opened, changed, holds, is_arity, is_such, is_wanted, limit as limit_of, opened, otherwise, row_among, rows};
 ghost use Rattle.sap_expect.specs.FirstWrong.{IsFirstWrong};
-ghost use Rattle.sap_expect.specs.code.Levels.{LevelsFit, most as most_levels};
 ghost use Rattle.sap_expect.specs.code.Steps.{Stepped, Taken};
 ghost use Rattle.sap_expect.specs.code.WantedView.{all_wanted, open_of, row_of, stacked, turn_there, wanted as view};
 
@@ -205,19 +204,24 @@ fn deeper(levels: u64, before: u64) -> u64
     if before < levels { levels } else { before }
 }
 
+// One more; so many levels as have no number need more memory than there is.
+fn one_more(levels: u64) -> Result<u64, Mem>
+    ensures { IfOk result (λ n. n ≡ levels + 1) }
+{
+    levels.checked_add(1).ok_or(Mem)
+}
+
 // The levels of what ended, where what ended last has these, and what had ended before has those.
-fn changed(change: Change, levels: u64, before: u64) -> u64
-    requires levels { levels ≤ most_levels }
-    requires before { before ≤ most_levels }
-    ensures { result ≡ changed change levels before }
+fn changed(change: Change, levels: u64, before: u64) -> Result<u64, Mem>
+    ensures { IfOk result (λ n. n ≡ changed change levels before) }
 {
     match change {
-        Change::Nothing => 0,
-        Change::One => 1,
-        Change::Two => 2,
-        Change::More => levels + 1,
-        Change::Deepest => deeper(levels, before),
-        Change::Joined => deeper(levels, before) + 1,
+        Change::Nothing => Ok(0),
+        Change::One => Ok(1),
+        Change::Two => Ok(2),
+        Change::More => one_more(levels),
+        Change::Deepest => Ok(deeper(levels, before)),
+        Change::Joined => one_more(deeper(levels, before)),
     }
 }
 
@@ -289,7 +293,6 @@ impl Walk {
 
     // A step with what is wanted on top.
     fn step(&mut self, bytes: &[u8], token: Token) -> Result<Option<bool>, Mem>
-        requires { LevelsFit self.old.levels (stacked self.old.open.items) }
         ensures { IfOk result (λ o. Stepped self.old.levels (stacked self.old.open.items)
             (word_of bytes.now token) self.new.levels (stacked self.new.open.items) o) }
     {
@@ -298,7 +301,7 @@ impl Walk {
             Some((wanted, number)) => match wanted {
                 Wanted::A(part, _) => self.step_part(bytes, token, part, number),
                 Wanted::Level(change) => {
-                    self.levels = changed(change, self.levels, number);
+                    self.levels = changed(change, self.levels, number)?;
                     Ok(None)
                 }
                 _ => Ok(Some(is_wanted(bytes, token, wanted))),
@@ -308,7 +311,6 @@ impl Walk {
 
     // Takes the token, where it may stand next; what is wanted behind it is open then.
     fn take(&mut self, bytes: &[u8], token: Token) -> Result<bool, Mem>
-        requires { LevelsFit self.old.levels (stacked self.old.open.items) }
         ensures { IfOk result (λ b. Taken self.old.levels (stacked self.old.open.items)
             (word_of bytes.now token) self.new.levels (stacked self.new.open.items) b) }
     {

@@ -5,7 +5,6 @@ use Rattle.sap_grammar.specs.Words.{Word}
 use Rattle.sap_expect.specs.declared.wanted.Part.{Part}
 use Rattle.sap_expect.specs.declared.wanted.Part.TheVariants.{MoreBuiltins, MoreFunctions, Privacy, Process, Facts, Terms, Equivalence, Implication, Disjunction, Conjunction, Formula, Arguments, Then, Else, Application, Truth, MoreBinders}
 use Rattle.sap_expect.specs.FileTable.{Open, Takes, Wanted, part}
-use Rattle.sap_expect.specs.code.Levels.{LevelsFit}
 
 -- more than what the part is otherwise
 abbrev pub part_weight : Part → ℕ
@@ -50,7 +49,6 @@ Taken n before w k after false = (j : ℕ) (next : List Open) → Takes n before
 pub record IsNothingYet (n : ℕ) (before : List Open) (w : Word) (k : ℕ) (after : List Open) : Type 0 where
   pub same : SameTakes n before w k after
   pub less : total after < total before
-  pub fit : LevelsFit n before → LevelsFit k after
 
 abbrev pub Stepped : ℕ → List Open → Word → ℕ → List Open → Option Bool → Type 0
 Stepped n before w k after (Some b) = Taken n before w k after b
