@@ -76,6 +76,10 @@ pub data IsFirst (P : Word → Type 0) (n : ℕ) : List Word → ℕ → List Wo
 pub data IsChanged (c : Change) (before n : ℕ) (a : List Word) : ℕ → List Word → Type 0 where
   is_changed : IsChanged c before n a (changed c n before) a
 
+-- what is so of what ended last there is so of what ended last then
+pub ends_there : (P : ℕ → List Word → Type 0) {n : ℕ} {a : List Word} {k : ℕ} {b : List Word} → Same n a k b → P n a → P k b
+ends_there P same h = h
+
 -- what the words of each part are, of at most m levels
 abbrev pub Meaning : Type 1
 Meaning = Part → ℕ → ℕ → List Word → ℕ → List Word → Type 0

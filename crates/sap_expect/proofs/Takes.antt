@@ -83,6 +83,10 @@ part_back n p l m vs w k next t x e o (takes_row g h) = absurd (cc)
 part_back n p l m vs w k next t x e o (takes_other g h i s) =
     (subst (λ (z : Test). holds z m n ≡ true) (one_test (otherwise p) o h) i, subst (λ (z : List Wanted). Takes n (all_opened m n z ++ vs) w k next) (one_list (otherwise p) o h) s)
 
+pub other_not : (n : ℕ) (p : Part) (l : Limit) (m : ℕ) (vs : List Open) (w : Word) (t : Test) (other : List Wanted) (k : ℕ) (next : List Open) → row p w ≡ None → otherwise p ≡ Some (t, other)
+    → holds t m n ≡ false → Takes n ((part p l, m) ∷ vs) w k next → ⊥
+other_not n p l m vs w t other k next e o never s = both _ never (part_back n p l m vs w k next t other e o s).0
+
 pub level_back : (n : ℕ) (c : Change) (i : ℕ) (vs : List Open) (w : Word) (k : ℕ) (next : List Open) → Takes n ((level c, i) ∷ vs) w k next → Takes (changed c n i) vs w k next
 level_back n c i vs w k next (takes_word g) = absurd (cc)
 level_back n c i vs w k next (takes_level t) = t

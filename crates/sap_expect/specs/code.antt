@@ -1,4 +1,3 @@
 -- What the code does, step by step: no public contract cites what stands below.
-pub mod Levels
 pub mod Steps
 pub mod WantedView
