@@ -7,7 +7,9 @@ use Rattle.sap_terms.specs.declared.signature.Symbol.{Symbol}
 use Rattle.sap_terms.specs.declared.signature.Builtin.{Builtin}
 use Rattle.sap_terms.specs.declared.limits.TheConstants.{MOST_ARITY}
 use Rattle.sap_terms.proofs.PlainLaws.Known.{one_name}
+use Rattle.sap_formula.specs.Form.{Form}
 use Rattle.sap_formula.specs.declared.lemma.Mode.{Mode}
+use Rattle.sap_formula_grammar.specs.FormulaGrammar.{IsShortFormula}
 use Rattle.sap_grammar.specs.Words.{Word, mark, name, number}
 use Rattle.sap_grammar.specs.Words as words_mod
 use Rattle.sap_grammar.specs.Cut.{is_item_word}
@@ -24,7 +26,7 @@ use Rattle.sap_expect.specs.declared.wanted.Part.{Part}
 use Rattle.sap_expect.specs.declared.wanted.Part.TheVariants.{Application, Attribute, Bars, Builtin as ABuiltin, Else, Equivalence, Function, Items, Lemma, Mode as AMode, MoreAttributes, MoreBuiltins, MoreFunctions, MoreParameters, Parameters, Privacy, Then}
 use Rattle.sap_expect.specs.FileTable.{FollowsTable, Open, Reads, any_name, is_arity, part, reads_end, row, sign}
 use Rattle.sap_expect.specs.FileWords.{AreItemWords, IsFileWords, one_item, only_end}
-use Rattle.sap_expect.proofs.FollowFormula.{quoted_follows}
+use Rattle.sap_expect.proofs.FollowFormula.{iff_follows}
 use Rattle.sap_expect.proofs.FollowProcess.{Behind, par_follows}
 use Rattle.sap_expect.proofs.OnRows.{NoRow, instead, on_nth, on_row, on_word}
 
@@ -69,6 +71,13 @@ few_of n le = small (value n) le
   where
     small : (m : ℕ) → m ≤ MOST_ARITY → nat_le m MOST_ARITY ≡ true
     small m le = search rules
+
+-- a formula with its closing quotation mark
+quoted_follows : (r : List Word) {g : Sig} {f : Form} {a b : List Word} {n : ℕ} {us : List Open} → IsShortFormula g FILE_LIMITS f a (mark (codes "\"") ∷ b) → ((k : ℕ) → Reads k us (b ++ r))
+    → Reads n ((part Equivalence OfFormula, FILE_LIMITS.formula_levels) ∷ (sign (codes "\""), 0) ∷ us) (a ++ r)
+quoted_follows r q h =
+    iff_follows r q.spelled q.few_levels q.small (record { no_terms = refl; no_fact = refl }) (record { no_and = refl; no_or = refl; no_imp = refl; no_iff = refl; no_third = refl })
+    (on_word refl (h _))
 
 -- items follow, whatever ended before
 abbrev pub ItemsFollow : ℕ → List Open → List Word → Type 0

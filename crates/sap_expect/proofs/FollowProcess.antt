@@ -9,10 +9,11 @@ use Rattle.sap_macro.specs.Written.{Written}
 use Rattle.sap_draft.specs.declared.limits.TheConstants.{FILE_LIMITS}
 use Rattle.sap_draft.specs.ProcessGrammar.{Ending, IsAction, IsBar, IsPar, IsSeq, action_acts, action_delete, action_event, action_input, action_insert, action_lock, action_new, action_new_fresh, action_out, action_receive, action_rule, action_send, action_unlock, closed, dangling, one_bar, par_more, par_one, seq_action, seq_call, seq_if, seq_if_else, seq_lookup, seq_lookup_else, seq_nil, seq_parentheses, seq_replicated, seq_then, seq_use, two_bars}
 use Rattle.sap_expect.specs.declared.wanted.Limit.{Limit}
-use Rattle.sap_expect.specs.declared.wanted.Limit.TheVariants.{Same}
+use Rattle.sap_expect.specs.declared.wanted.Change.TheVariants.{Joined}
+use Rattle.sap_expect.specs.declared.wanted.Limit.TheVariants.{Below, Same}
 use Rattle.sap_expect.specs.declared.wanted.Part.TheVariants.{Application, Arguments, Bars, Else, Process, Sequence, Then}
 use Rattle.sap_expect.specs.declared.wanted.Test.TheVariants.{Always, HasRoom}
-use Rattle.sap_expect.specs.FileTable.{Open, Reads, Turn, holds, part}
+use Rattle.sap_expect.specs.FileTable.{Open, Reads, Turn, holds, level, part}
 use Rattle.sap_expect.proofs.OnRows.{NoRow, NotNone, instead, on_level, on_row, on_word}
 use Rattle.sap_expect.proofs.FollowTerms.{IsPlain, args_follow, facts_follow, list_follows, plain, plain_of, shown_follow, small_levels, term_follows}
 

@@ -1,19 +1,22 @@
 -- Rows of the table for items, backwards.
 use Rattle.std.proofs.Common.{◌≡◌, ◌≤◌, ℕ, inl, inr, List, ◌∷◌, arith}
-use Rattle.std.specs.Prelude.{codes}
 use Rattle.sap_terms.specs.declared.limits.TheConstants.{MOST_PROCESS_LEVELS}
 use Rattle.sap_terms.specs.declared.signature.Builtin.{Builtin}
 use Rattle.sap_terms.specs.Signature.{Sig}
-use Rattle.sap_grammar.specs.Words.{Word, mark}
+use Rattle.sap_formula.specs.Form.{Form}
+use Rattle.sap_formula_grammar.specs.FormulaGrammar.{IsIff, IsShortFormula}
+use Rattle.sap_grammar.specs.Words.{Word}
 use Rattle.sap_grammar.specs.Declarations.{IsBuiltin, spells_asymmetric, spells_hashing, spells_revealing, spells_signing, spells_symmetric}
 use Rattle.sap_draft.specs.declared.limits.TheConstants.{FILE_LIMITS}
 use Rattle.sap_statements.specs.Statements.{is_reuse, is_sources, is_use_induction, mode_all, mode_exists, mode_missing, with_attributes, without_attributes}
 use Rattle.sap_read.specs.ItemGrammar.{with_parameters, without_parameters}
-use Rattle.sap_expect.specs.declared.wanted.Part.TheVariants.{Attribute, Builtin as ABuiltin, File, Function, Items, Lemma, Mode, MoreAttributes, MoreBuiltins, MoreFunctions, MoreParameters, Parameters, Privacy}
+use Rattle.sap_expect.specs.declared.wanted.Part.TheVariants.{Arguments, Arrow, Attribute, Bars, Builtin as ABuiltin, Else, File, Function, Items, Lemma, Message, Mode, MoreAttributes, MoreBuiltins, MoreFunctions, MoreParameters, NewName, Parameters, Privacy, Process, Sequence, Then}
 use Rattle.sap_expect.specs.FileTable.{otherwise, rows}
 use Rattle.sap_expect.proofs.Meant.{AreOther, AreRow, Meaning, first, is_any, is_arity_word, is_named, is_sign, is_small, same}
 use Rattle.sap_expect.proofs.MeantItems.{AreMoreAttributes, AreMoreBuiltins, AreMoreParameters, AreMoreSymbols, HasSymbols, IsBehindArity, SomeAttribute, SomeFile, SomeItems, SomeLemma, SomeMode, SomeParameters, attributes_end, attributes_next, attributes_of, builtins_item, builtins_none, builtins_of, builtins_some, definition_item, end_items, functions_item, is_private, lemma_item, not_private, parameters_end, parameters_next, parameters_of, process_item, restriction_item, some_attribute, some_file, some_lemma, some_mode, symbols_none, symbols_of, symbols_some}
-use Rattle.sap_expect.proofs.FormulaRows.{of_formulas, quoted_formula}
+use Rattle.sap_expect.proofs.FormulaRows.{of_formulas}
+use Rattle.sap_expect.proofs.MeantFormulas.{NoIff, Whole}
+use Rattle.sap_expect.proofs.SequenceRows.{of_processes}
 
 abbrev pub SomeBuiltin : List Word → List Word → Type 0
 SomeBuiltin a b = (v : Builtin) × IsBuiltin v a b
@@ -32,7 +35,23 @@ of_items g Lemma m n a k b = SomeLemma g a b
 of_items g Attribute m n a k b = SomeAttribute a b
 of_items g MoreAttributes m n a k b = AreMoreAttributes a b
 of_items g Mode m n a k b = SomeMode g a b
+of_items g NewName m n a k b = of_processes g NewName m n a k b
+of_items g Message m n a k b = of_processes g Message m n a k b
+of_items g Arrow m n a k b = of_processes g Arrow m n a k b
+of_items g Arguments m n a k b = of_processes g Arguments m n a k b
+of_items g Then m n a k b = of_processes g Then m n a k b
+of_items g Else m n a k b = of_processes g Else m n a k b
+of_items g Sequence m n a k b = of_processes g Sequence m n a k b
+of_items g Process m n a k b = of_processes g Process m n a k b
+of_items g Bars m n a k b = of_processes g Bars m n a k b
 of_items g p m n a k b = of_formulas g p m n a k b
+
+-- a formula up to its closing quotation mark
+pub quoted_formula : {g : Sig} {k : ℕ} {a b : List Word} → (1 ≤ FILE_LIMITS.formula_levels → Whole (IsIff g) NoIff FILE_LIMITS.formula_levels a k b) → (f : Form) × IsShortFormula g FILE_LIMITS f a b
+quoted_formula {k = k} q =
+    let h = q (omega arith) in
+    let few = h.1.1 in
+    (h.0.form, record { reach = h.0.reach; levels = k; spelled = h.0.is; few_levels = few; small = h.0.small })
 
 some_levels : 1 ≤ MOST_PROCESS_LEVELS
 some_levels = omega arith
@@ -51,7 +70,7 @@ module _ (g : Sig) {m n : ℕ} {w : Word} {a : List Word} {k : ℕ} {b : List Wo
   items_row (inr (_, inr (_, inr (_, inl (is_sign, o, (i, c, first is_sign, (j, d, p, (x, e, h, same)))))))) =
       let q = p some_levels in
       process_item q.is q.few h
-  items_row (inr (_, inr (_, inr (_, inr (_, inl (is_sign, o, (i, c, first is_any, (j, d, first is_sign, (x, e, first is_sign, (y, f, q, (z, p, first is_sign, (v, r, h, same))))))))))))) =
+  items_row (inr (_, inr (_, inr (_, inr (_, inl (is_sign, o, (i, c, first is_any, (j, d, first is_sign, (x, e, first is_sign, (y, f, q, (z, p, first is_sign, (v, r, h, same)))))))))))) =
       restriction_item _ (quoted_formula q).1 h
   items_row (inr (_, inr (_, inr (_, inr (_, inr (_, inl (is_sign, o, (i, c, first is_any, (j, d, q, (x, e, h, same)))))))))) = lemma_item _ q h
   items_row (inr (_, inr (_, inr (_, inr (_, inr (_, inr (_, inl (is_sign, o, same)))))))) = end_items

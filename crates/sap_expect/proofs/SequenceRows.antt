@@ -13,7 +13,7 @@ use Rattle.sap_expect.specs.FileTable.{Turn, otherwise, row, rows}
 use Rattle.sap_expect.proofs.FollowProcess.{seq_levels}
 use Rattle.sap_expect.proofs.Meant.{AreOther, AreRow, Meaning, first, is_any, is_capital, is_changed, is_sign, is_zero, same}
 use Rattle.sap_expect.proofs.MeantProcesses.{HasArguments, HasArrow, HasBars, HasElse, HasMessage, HasProcess, HasSequence, HasThen, IsNewName, act_sequence, arrow_plain, arrow_shows, bars_more, bars_none, else_none, else_some, group_sequence, if_sequence, in_action, lookup_sequence, message_end, message_second, new_action, new_fresh, new_message, nil_sequence, out_action, process_of, replicated_sequence, rule_action, then_none, then_some, use_sequence, with_arguments, without_arguments}
-use Rattle.sap_expect.proofs.FactRows.{of_facts, short_of, small_list, small_event}
+use Rattle.sap_expect.proofs.FactRows.{linear_fact, of_facts, short_of, small_list}
 
 abbrev pub of_processes : Sig → Meaning
 of_processes g NewName m n a k b = IsNewName a b
@@ -111,7 +111,7 @@ module _ {g : Sig} {m n : ℕ} {w : Word} {a : List Word} {k : ℕ} {b : List Wo
       act_sequence two (in_action (short_of t).1 u) (q two)
   sequence_row (inr (_, inr (_, inr (_, inr (_, inr (_, inr (_, inr (_, inl (is_sign, o, (i, c, first (is_capital up), (j, d, first is_sign, (x, e, s, (y, f, q, same))))))))))))) one =
       let two = le_of 2 m o in
-      act_sequence two (small_event up s) (q two)
+      act_sequence two (_, action_event (linear_fact false up s).1) (q two)
   sequence_row (inr (_, inr (_, inr (_, inr (_, inr (_, inr (_, inr (_, inr (_, inl (is_sign, o, (i, c, t, (j, d, first is_sign, (x, e, u, (y, f, q, same)))))))))))))) one =
       let two = le_of 2 m o in
       act_sequence two (_, action_insert (short_of t).1 (short_of u).1) (q two)
@@ -127,10 +127,10 @@ module _ {g : Sig} {m n : ℕ} {w : Word} {a : List Word} {k : ℕ} {b : List Wo
   sequence_row (inr (_, inr (_, inr (_, inr (_, inr (_, inr (_, inr (_, inr (_, inr (_, inr (_, inr (_, inr (_, inl (is_sign, o, (i, c, fs, (j, d, x, (y, e, q, same))))))))))))))))) one =
       let two = le_of 2 m o in
       act_sequence two (rule_action fs x) (q two)
-  sequence_row (inr (_, inr (_, inr (_, inr (_, inr (_, inr (_, inr (_, inr (_, inr (_, inr (_, inr (_, inr (_, inr (_, inl (is_sign, o, (i, c, t, (j, d, first is_sign, (x, e, u, (y, f, first is_sign, (z, p, s, (v, q, r, same)))))))))))))))))))) one =
+  sequence_row (inr (_, inr (_, inr (_, inr (_, inr (_, inr (_, inr (_, inr (_, inr (_, inr (_, inr (_, inr (_, inr (_, inl (is_sign, o, (i, c, t, (j, d, first is_sign, (x, e, u, (y, f, first is_sign, (z, p, s, (v, q, r, same))))))))))))))))))))) one =
       let two = le_of 2 m o in
       if_sequence two (short_of t).1 (short_of u).1 (s (below m two)) (r two)
-  sequence_row (inr (_, inr (_, inr (_, inr (_, inr (_, inr (_, inr (_, inr (_, inr (_, inr (_, inr (_, inr (_, inr (_, inr (_, inl (is_sign, o, (i, c, t, (j, d, first is_sign, (x, e, first is_any, (y, f, first is_sign, (z, p, s, (v, q, r, same))))))))))))))))))))) one =
+  sequence_row (inr (_, inr (_, inr (_, inr (_, inr (_, inr (_, inr (_, inr (_, inr (_, inr (_, inr (_, inr (_, inr (_, inr (_, inl (is_sign, o, (i, c, t, (j, d, first is_sign, (x, e, first is_any, (y, f, first is_sign, (z, p, s, (v, q, r, same)))))))))))))))))))))) one =
       let two = le_of 2 m o in
       lookup_sequence _ two (short_of t).1 (s (below m two)) (r two)
-  sequence_row (inr (_, inr (_, inr (_, inr (_, inr (_, inr (_, inr (_, inr (_, inr (_, inr (_, inr (_, inr (_, inr (_, inr (_, inr (_, h))))))))))))))) one = absurd h
+  sequence_row (inr (_, inr (_, inr (_, inr (_, inr (_, inr (_, inr (_, inr (_, inr (_, inr (_, inr (_, inr (_, inr (_, inr (_, inr (_, h)))))))))))))))) one = absurd h

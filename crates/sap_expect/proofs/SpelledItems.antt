@@ -10,6 +10,7 @@ use Rattle.sap_expect.specs.Letters.{AreLettered, IsLettered}
 use Rattle.sap_expect.proofs.Meant.{AreOther, AreRow, Parted, parted, reads_of}
 use Rattle.sap_expect.proofs.MeantItems.{file_of}
 use Rattle.sap_expect.proofs.ItemRows.{attribute_row, builtin_row, file_row, function_row, items_row, lemma_row, mode_row, more_attributes_row, more_builtins_other, more_builtins_row, more_functions_other, more_functions_row, more_parameters_row, of_items, parameters_row, privacy_other, privacy_row}
+use Rattle.sap_expect.proofs.SequenceRows.{arguments_other, arguments_row, arrow_row, bars_other, bars_row, else_other, else_row, message_row, new_name_row, process_other, sequence_row, then_other, then_row}
 use Rattle.sap_expect.proofs.Takes.{no_takes}
 use Rattle.sap_expect.proofs.SpelledFormulas.{each_lettered, formula_others, formula_rows}
 
@@ -29,17 +30,17 @@ module _ (g : Sig) where
   item_rows MoreAttributes m n w a k b l h = more_attributes_row g h
   item_rows Mode m n w a k b l h = mode_row g h
   item_rows Process m n w a k b l h = absurd h
-  item_rows Bars m n w a k b l h = formula_rows g Bars m n w a k b l h
-  item_rows Sequence m n w a k b l h = formula_rows g Sequence m n w a k b l h
-  item_rows Arguments m n w a k b l h = formula_rows g Arguments m n w a k b l h
-  item_rows Then m n w a k b l h = formula_rows g Then m n w a k b l h
-  item_rows Else m n w a k b l h = formula_rows g Else m n w a k b l h
-  item_rows NewName m n w a k b l h = formula_rows g NewName m n w a k b l h
-  item_rows Message m n w a k b l h = formula_rows g Message m n w a k b l h
+  item_rows Bars m n w a k b l h = bars_row h
+  item_rows Sequence m n w a k b l h = sequence_row h
+  item_rows Arguments m n w a k b l h = arguments_row h
+  item_rows Then m n w a k b l h = then_row h
+  item_rows Else m n w a k b l h = else_row h
+  item_rows NewName m n w a k b l h = new_name_row h
+  item_rows Message m n w a k b l h = message_row h
   item_rows Facts m n w a k b l h = formula_rows g Facts m n w a k b l h
   item_rows MoreFacts m n w a k b l h = formula_rows g MoreFacts m n w a k b l h
   item_rows Fact m n w a k b l h = formula_rows g Fact m n w a k b l h
-  item_rows Arrow m n w a k b l h = formula_rows g Arrow m n w a k b l h
+  item_rows Arrow m n w a k b l h = arrow_row h
   item_rows Shown m n w a k b l h = formula_rows g Shown m n w a k b l h
   item_rows MoreShown m n w a k b l h = formula_rows g MoreShown m n w a k b l h
   item_rows Term m n w a k b l h = formula_rows g Term m n w a k b l h
@@ -82,12 +83,12 @@ module _ (g : Sig) where
   item_others Attribute m n w a k b l e h = absurd h
   item_others MoreAttributes m n w a k b l e h = absurd h
   item_others Mode m n w a k b l e h = absurd h
-  item_others Process m n w a k b l e h = formula_others g Process m n w a k b l e h
-  item_others Bars m n w a k b l e h = formula_others g Bars m n w a k b l e h
+  item_others Process m n w a k b l e h = process_other h
+  item_others Bars m n w a k b l e h = bars_other h
   item_others Sequence m n w a k b l e h = absurd h
-  item_others Arguments m n w a k b l e h = formula_others g Arguments m n w a k b l e h
-  item_others Then m n w a k b l e h = formula_others g Then m n w a k b l e h
-  item_others Else m n w a k b l e h = formula_others g Else m n w a k b l e h
+  item_others Arguments m n w a k b l e h = arguments_other h
+  item_others Then m n w a k b l e h = then_other h
+  item_others Else m n w a k b l e h = else_other e h
   item_others NewName m n w a k b l e h = absurd h
   item_others Message m n w a k b l e h = absurd h
   item_others Facts m n w a k b l e h = formula_others g Facts m n w a k b l e h
