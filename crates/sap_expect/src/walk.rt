@@ -1,10 +1,12 @@
 //! The first word of a file that is wrong by the table of its words.
 ghost use Rattle.std.specs.Prelude.{◌≡◌, ◌+◌, [], ◌∷◌, ◌++◌, true, false, IfOk, OnOk, MatchOption, map};
 ghost use Rattle.std.specs.Option.{option_copied};
+ghost use Rattle.sap_text.specs.Spans.{AreTokens};
 ghost use Rattle.sap_text.specs.declared.token.Token.{Token};
 ghost use Rattle.sap_grammar.specs.Words.{is_lower, is_upper, word_of, words_of};
 ghost use Rattle.sap_expect.specs.declared.wanted.Limit.{Limit};
-ghost use Rattle.sap_expect.specs.FileTable.{part as part_of, FollowsTable, all_opened, changed, holds, is_arity, is_such, is_wanted, limit as limit_of, opened, otherwise, row_among, rows};
+ghost use Rattle.sap_expect.specs.FileTable.{part as part_of, all_opened, changed, holds, is_arity, is_such, is_wanted, limit as limit_of, opened, otherwise, row_among, rows};
+ghost use Rattle.sap_expect.specs.FileWords.{IsFileWords};
 ghost use Rattle.sap_expect.specs.FirstWrong.{IsFirstWrong};
 ghost use Rattle.sap_expect.specs.code.Steps.{Stepped, Taken};
 ghost use Rattle.sap_expect.specs.code.WantedView.{all_wanted, open_of, row_of, stacked, turn_there, wanted as view};
@@ -15,7 +17,7 @@ use crate::wanted::{Change, Limit, Part, Test, Wanted};
 use sap_draft::FILE_LIMITS;
 use sap_grammar::{is_lower, is_mark, is_upper, name_at, names, number_at, quoted_at, starts_zero};
 use sap_terms::{MOST_ARITY, MOST_PROCESS_LEVELS, Mem};
-use sap_text::Token;
+use sap_text::{Token, spans_are_tokens};
 use std::alloc::Global;
 
 // Whether these are the digits of an arity.
@@ -322,14 +324,19 @@ impl Walk {
     }
 }
 
-/// The number of the first word that is wrong by the table, or that of the words, where only the end is missing; `None` where the
-/// words follow it. It goes over the tokens once, and takes no more of the stack the deeper they are nested. Want of memory is the
-/// only error.
+/// The number of the first word with which the words of the tokens begin no file's words any more, or how many there are, where only the
+/// end is missing; `None` where they are a file's words. It goes over the tokens once, and takes no more of the stack the deeper they are
+/// nested. Want of memory is the only error.
 pub fn first_wrong(alloc: Global, bytes: &[u8], tokens: &[Token]) -> Result<Option<usize>, Mem>
-    ensures { IfOk result (λ o. MatchOption o (FollowsTable (words_of bytes.now tokens.now))
-        (λ k. IsFirstWrong FollowsTable (words_of bytes.now tokens.now) k)) }
+    requires are { AreTokens bytes.now tokens.now }
+    ensures { IfOk result (λ o. MatchOption o (IsFileWords (words_of bytes.now tokens.now))
+        (λ k. IsFirstWrong IsFileWords (words_of bytes.now tokens.now) k)) }
 {
-    let mut walk = Walk { levels: 0, open: Vec::new(alloc) };
+    spans_are_tokens();
+    let mut walk = Walk {
+        levels: 0,
+        open: Vec::new(alloc),
+    };
     walk.open.push((Wanted::A(Part::File, Limit::Same), 0))?;
     for k in 0..tokens.len() {
         if !walk.take(bytes, tokens[k])? {
