@@ -27,47 +27,12 @@ ghost use Rattle.sap_expect.specs.Letters.{AreLettered};
 
 use sap_text::spans_are_tokens;
 
-/// A law: where the table wants a term, the words that follow it begin with a term, under any signature, and what is behind the term
-/// follows what is wanted behind it; so do arguments, with their parenthesis.
-pub fn terms_that_follow_are_spelled()
-    ensures term { (g : Sig) (vs : List Wanted) (ws : List Word) → Reads (part Term ∷ vs) ws
-        → (t : Tree) × (b : List Word) × IsTerm g t ws b × Reads vs b }
-    ensures arguments { (g : Sig) (vs : List Wanted) (ws : List Word) → Reads (part Terms ∷ vs) ws
-        → (ts : List Tree) × (b : List Word) × IsArgs g ts ws b × Reads vs b }
-{}
-
-/// A law: so of facts: of one, of a list in brackets, and of what a rule shows, where terms may have so many levels as these have.
-pub fn facts_that_follow_are_spelled()
-    ensures fact { (g : Sig) (vs : List Wanted) (ws : List Word) → Reads (part AFact ∷ vs) ws
-        → (f : Fact) × (b : List Word) × IsFact g f ws b × Reads vs b }
-    ensures facts { (g : Sig) (vs : List Wanted) (ws : List Word) → Reads (part Facts ∷ vs) ws
-        → (n : ℕ) × (fs : List Fact) × (b : List Word) × AreFacts g (levels n) true (codes "]") fs ws b × Reads vs b }
-    ensures shown { (g : Sig) (vs : List Wanted) (ws : List Word) → Reads (part Shown ∷ vs) ws
-        → (n : ℕ) × (fs : List Fact) × (b : List Word) × AreFacts g (levels n) false (codes "]->") fs ws b × Reads vs b }
-{}
-
 /// A law: so of processes: of one that is no parallel without parentheses, and of one in parentheses, behind the opening one.
 pub fn processes_that_follow_are_spelled()
     ensures sequence { (g : Sig) (vs : List Wanted) (ws : List Word) → Reads (part Sequence ∷ vs) ws
         → (n : ℕ) × (e : Ending) × (p : Written) × (k : ℕ) × (b : List Word) × IsSeq g (levels n) e p k ws b × Reads vs b }
     ensures in_parentheses { (g : Sig) (vs : List Wanted) (ws : List Word) → Reads (part Sequence ∷ part InnerBars ∷ vs) ws
         → (n : ℕ) × (p : Written) × (k : ℕ) × (b : List Word) × IsPar g (levels n) p k ws (mark (codes ")") ∷ b) × Reads vs b }
-{}
-
-/// A law: so of formulas, up to the quotation mark or the parenthesis that closes one, where each name begins with a letter, as those
-/// of tokens do.
-pub fn formulas_that_follow_are_spelled()
-    ensures in_quotes { (g : Sig) (vs : List Wanted) (ws : List Word) → AreLettered ws → Reads (part Formula ∷ vs) ws
-        → (n : ℕ) × (f : Form) × (b : List Word) × IsShortFormula g (levels n) f ws (mark (codes "\"") ∷ b) × Reads vs b }
-    ensures in_parentheses { (g : Sig) (vs : List Wanted) (ws : List Word) → AreLettered ws → Reads (part InnerFormula ∷ vs) ws
-        → (n : ℕ) × (f : Form) × (b : List Word) × IsShortFormula g (levels n) f ws (mark (codes ")") ∷ b) × Reads vs b }
-{}
-
-/// A law: what it is for that names begin with letters: by the table words may be a formula's, with its quotation mark, and the grammar
-/// has none that begins so, where a name that begins with no letter stands before parentheses.
-pub fn names_without_letters()
-    ensures follows { Reads (part Formula ∷ []) letterless }
-    ensures spelled_not { (g : Sig) (m : Limits) (f : Form) (b : List Word) → IsShortFormula g m f letterless b → ⊥ }
 {}
 
 /// A law: so of items with their `end`, and of a file's tokens: where their words follow the table, they are a header and items, whose
