@@ -3,7 +3,8 @@ use Rattle.std.specs.Prelude.{ℕ, codes, List, [], ◌∷◌}
 use Rattle.sap_grammar.specs.Words.{Word, mark, name, number, quoted}
 use Rattle.sap_expect.specs.declared.wanted.Limit.TheVariants.{Same}
 use Rattle.sap_expect.specs.declared.wanted.Part.{Part}
-use Rattle.sap_expect.specs.FileTable.{Open, Takes, part}
+use Rattle.sap_expect.specs.declared.wanted.Part.TheVariants.{Equivalence}
+use Rattle.sap_expect.specs.FileTable.{Open, Takes, part, sign}
 
 -- the words are taken one by one
 pub data AreTaken : ℕ → List Open → List Word → ℕ → List Open → Type 0 where
@@ -99,3 +100,12 @@ three_in_body = mark (codes "All") ∷ name (codes "x") ∷ mark (codes ".") ∷
 -- `not ( T`
 abbrev pub not_group : List Word
 not_group = mark (codes "not") ∷ opening ∷ truth ∷ []
+
+-- a formula of one level is wanted, and a quotation mark
+abbrev pub quoted_formula : List Open
+quoted_formula = (part Equivalence Same, 1) ∷ (sign (codes "\""), 0) ∷ []
+
+-- `_ ( ) = 'a' "`: no letter begins the name before the parentheses
+abbrev pub letterless : List Word
+letterless =
+    name (95 ∷ []) ∷ opening ∷ mark (codes ")") ∷ mark (codes "=") ∷ a ∷ mark (codes "\"") ∷ []

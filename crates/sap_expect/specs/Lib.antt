@@ -1,10 +1,7 @@
 pub mod FirstWrong
 pub mod FileTable
-pub mod AnyLevels
-pub mod Letters
 pub mod FileWords
-pub mod ItemsUpTo
-pub mod TermLevels
+pub mod Letters
 pub mod LevelExamples
 pub mod ItemExamples
 pub mod code

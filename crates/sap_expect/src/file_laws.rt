@@ -1,23 +1,18 @@
 //! Laws of the words of files, as contracts of functions that do nothing but call those below.
-ghost use Rattle.std.specs.Prelude.{◌≡◌, ◌≤◌, ◌∷◌, ℕ, List, Result, Err};
+ghost use Rattle.std.specs.Prelude.{◌≡◌, ℕ, List, Result, Err};
 ghost use Rattle.sap_text.specs.Spans.{AreTokens as AreTokensOf};
 ghost use Rattle.sap_text.specs.declared.token.Token.{Token};
 ghost use Rattle.sap_terms.specs.Signature.{Sig};
 ghost use Rattle.sap_grammar.specs.Cut.{Placed};
 ghost use Rattle.sap_grammar.specs.Words.{Word, words_of};
-ghost use Rattle.sap_macro.specs.Written.{Written};
-ghost use Rattle.sap_draft.specs.ProcessGrammar.{Ending, IsPar, IsSeq};
-ghost use Rattle.sap_draft.specs.declared.limits.TheConstants.{FILE_LIMITS};
 ghost use Rattle.sap_read.specs.Files.{AreTokens, FileContent, IsParted, IsRead};
 ghost use Rattle.sap_read.specs.Item.{Standing};
 ghost use Rattle.sap_read.specs.ItemGrammar.{AreItems};
 ghost use Rattle.sap_read.specs.declared.fault.ReadFault.{ReadFault};
 ghost use Rattle.sap_read.specs.declared.fault.ReadFault.TheVariants.{Header, Syntax};
-ghost use Rattle.sap_expect.specs.FileTable.{FollowsTable, Open, Reads, part};
+ghost use Rattle.sap_expect.specs.FileTable.{FollowsTable};
 ghost use Rattle.sap_expect.specs.FileWords.{AreSomeItems, IsFileWords};
 ghost use Rattle.sap_expect.specs.Letters.{AreLettered};
-ghost use Rattle.sap_expect.specs.declared.wanted.Limit.{Limit};
-ghost use Rattle.sap_expect.specs.declared.wanted.Part.TheVariants.{Process, Sequence};
 
 use sap_grammar::printed_words;
 use sap_read::one_list_of_items;
@@ -53,12 +48,3 @@ pub fn table_is_the_grammar()
 {
     spans_are_tokens();
 }
-
-/// A law: where the table wants a process of at most so many levels, that is no parallel without parentheses, or any, the words that follow
-/// it begin with one, under any signature, and what is behind it follows what is wanted behind it.
-pub fn processes_that_follow_are_spelled()
-    ensures sequence { (g : Sig) (n m : ℕ) (l : Limit) (vs : List Open) (ws : List Word) → 1 ≤ m → Reads n ((part Sequence l, m) ∷ vs) ws
-        → (e : Ending) × (p : Written) × (k : ℕ) × (b : List Word) × IsSeq g FILE_LIMITS e p k ws b × (k ≤ m) × Reads k vs b }
-    ensures process { (g : Sig) (n m : ℕ) (l : Limit) (vs : List Open) (ws : List Word) → 1 ≤ m → Reads n ((part Process l, m) ∷ vs) ws
-        → (p : Written) × (k : ℕ) × (b : List Word) × IsPar g FILE_LIMITS p k ws b × (k ≤ m) × Reads k vs b }
-{}

@@ -242,14 +242,14 @@ fn opened(wanted: Wanted, most: u64, levels: u64) -> Open
 }
 
 // Puts what is wanted on top, the first of it topmost.
-fn push_all(open: &mut Vec<Open>, wanted: &[Wanted], most: u64, levels: u64) -> Result<(), Mem>
-    ensures { OnOk result (stacked open.new.items ≡ all_opened most levels (all_wanted wanted.now)
-        ++ stacked open.old.items) }
+fn push_all(stack: &mut Vec<Open>, wanted: &[Wanted], most: u64, levels: u64) -> Result<(), Mem>
+    ensures { OnOk result (stacked stack.new.items ≡ all_opened most levels (all_wanted wanted.now)
+        ++ stacked stack.old.items) }
 {
     let mut k = wanted.len();
     while k > 0 {
         k -= 1;
-        open.push(opened(wanted[k], most, levels))?;
+        stack.push(opened(wanted[k], most, levels))?;
     }
     Ok(())
 }
