@@ -328,7 +328,7 @@ impl Walk {
 /// end is missing; `None` where they are a file's words. It goes over the tokens once, and takes no more of the stack the deeper they are
 /// nested. Want of memory is the only error.
 pub fn first_wrong(alloc: Global, bytes: &[u8], tokens: &[Token]) -> Result<Option<usize>, Mem>
-    requires are { AreTokens bytes.now tokens.now }
+    requires { AreTokens bytes.now tokens.now }
     ensures { IfOk result (λ o. MatchOption o (IsFileWords (words_of bytes.now tokens.now))
         (λ k. IsFirstWrong IsFileWords (words_of bytes.now tokens.now) k)) }
 {

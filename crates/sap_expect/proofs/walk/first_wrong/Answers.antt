@@ -1,13 +1,21 @@
-use Rattle.std.proofs.Common.{◌≡◌, length, arith}
+use Rattle.std.proofs.Common.{◌≡◌, ℕ, List, [], ◌∷◌, ◌++◌, ◌∙◌, ap, arith, length, subst, sym}
+use Rattle.sap_expect.specs.declared.wanted.Limit.TheVariants.{Same}
+use Rattle.sap_expect.specs.declared.wanted.Part.TheVariants.{File}
+use Rattle.sap_expect.specs.declared.wanted.Wanted as code
+use Rattle.sap_expect.specs.declared.wanted.Wanted.TheVariants.{A}
 use Rattle.sap_expect.specs.code.WantedView.{stacked}
 use Rattle.sap_expect.specs.Letters.{AreLettered}
 use Rattle.sap_grammar.specs.Words.{words_of}
-use Rattle.sap_expect.proofs.FirstWrong.{at_start, ends_early, follows_all, next_token, wrong_token}
+use Rattle.sap_expect.proofs.FirstWrong.{Reached, at_start, ends_early, follows_all, next_token, wrong_token}
 use Rattle.sap_expect.proofs.LetteredTokens.{words_lettered}
 use Rattle.sap_expect.proofs.walk.first_wrong.Goals as goal
 
 pub loop-k-init : goal.loop-k-init
-loop-k-init c = at_start
+loop-k-init c =
+    let none = c.new.ensures.items in
+    let one = c.in_ok-push.ensures.items in
+    let all : c.push.new.self.items ≡ (A File Same, 0) ∷ [] = one ∙ ap (λ (vs : List (code.Wanted × ℕ)). vs ++ ((A File Same, 0) ∷ [])) none in
+    subst (λ (vs : List (code.Wanted × ℕ)). Reached [] 0 (stacked vs)) (sym all) at_start
 
 pub returns-then-not-branch : goal.returns-then-not-branch
 returns-then-not-branch c =
@@ -19,7 +27,7 @@ returns-then-not-branch c =
 pub loop-k-preserved : goal.loop-k-preserved
 loop-k-preserved c =
     let h = rw c.if-not-branch.false at c.in_ok-take.ensures in
-    next_token c.args.bytes.now c.args.tokens.now c.loop-k.k _ c.loop-k.walk.levels c.take.new.walk.levels (stacked c.loop-k.walk.open.items) (stacked c.take.new.walk.open.items)
+    next_token c.args.bytes.now c.args.tokens.now c.loop-k.k _ c.loop-k.walk.levels c.take.new.self.levels (stacked c.loop-k.walk.open.items) (stacked c.take.new.self.open.items)
     c.loop-k-test.true c.loop-k.invariant h
 
 pub returns-then-is_empty : goal.returns-then-is_empty

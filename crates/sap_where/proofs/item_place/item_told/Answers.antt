@@ -1,8 +1,12 @@
 use Rattle.std.proofs.Common.{refl}
+use Rattle.sap_terms.specs.declared.limits.TheConstants.{MOST_FILE_NAME_BYTES}
 use Rattle.sap_where.specs.Told.{at_its_place}
 use Rattle.sap_where.specs.Where.{at_item}
 use Rattle.sap_where.proofs.Nowhere.{item_nowhere}
 use Rattle.sap_where.proofs.item_place.item_told.Goals as goal
+
+pub first_wrong-requires : goal.first_wrong-requires
+first_wrong-requires c = (MOST_FILE_NAME_BYTES, c.requires.are)
 
 pub returns-in-Some-clause-place : goal.returns-in-Some-clause-place
 returns-in-Some-clause-place c = λ line.
