@@ -3,11 +3,17 @@ pub mod Takes
 pub mod Lighter
 pub mod Turns
 pub mod OnRows
+pub mod Quiet
+pub mod Ends
 pub mod FirstWrong
 pub mod Reaching
 pub mod FollowTerms
 pub mod FollowProcess
 pub mod FollowFormula
+pub mod FreeItems
+pub mod Fronts
+pub mod FormulaFronts
+pub mod FileParts
 pub mod FollowItems
 pub mod ItemsByHand
 pub mod Meant
@@ -17,7 +23,7 @@ pub mod MeantFormulas
 pub mod MeantItems
 pub mod TermRows
 pub mod FactRows
-pub mod ProcessRows
+pub mod SequenceRows
 pub mod FormulaRows
 pub mod ItemRows
 pub mod SpelledTerms

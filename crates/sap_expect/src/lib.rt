@@ -1,6 +1,7 @@
 //! What may stand next in a file, and which word is the first that may not, by a table of a file's words.
 #![tactic(auto)]
 
+mod file_laws;
 mod laws;
 mod level_laws;
 mod part_laws;
@@ -8,6 +9,7 @@ mod table;
 mod walk;
 mod wanted;
 
+pub use file_laws::files_are_their_words;
 pub use laws::{files_follow_the_table, items_by_hand, table_goes_on};
 pub use level_laws::levels_by_hand;
 pub use part_laws::{
