@@ -156,7 +156,12 @@ fn otherwise(part: Part) -> Option<Turn>
         Part::MoreBuiltins | Part::MoreFunctions => Some(table::THE_ITEMS),
         Part::Privacy => Some(table::THE_FUNCTIONS),
         Part::Process => Some(table::A_SEQUENCE),
-        Part::Bars | Part::Ended | Part::MoreEquivalence | Part::MoreImplication | Part::MoreDisjunction | Part::MoreConjunction => Some(table::NO_MORE),
+        Part::Bars
+        | Part::Ended
+        | Part::MoreEquivalence
+        | Part::MoreImplication
+        | Part::MoreDisjunction
+        | Part::MoreConjunction => Some(table::NO_MORE),
         Part::Arguments | Part::Application | Part::Truth => Some(table::A_LEAF),
         Part::Then => Some(table::A_NIL),
         Part::Else => Some(table::NO_OTHER_BRANCH),
@@ -329,7 +334,10 @@ pub fn first_wrong(alloc: Global, bytes: &[u8], tokens: &[Token]) -> Result<Opti
     ensures { IfOk result (λ o. MatchOption o (FollowsTable (words_of bytes.now tokens.now))
         (λ k. IsFirstWrong FollowsTable (words_of bytes.now tokens.now) k)) }
 {
-    let mut walk = Walk { levels: 0, open: Vec::new(alloc) };
+    let mut walk = Walk {
+        levels: 0,
+        open: Vec::new(alloc),
+    };
     walk.open.push((Wanted::A(Part::File, Limit::Same), 0))?;
     for k in 0..tokens.len() {
         if !walk.take(bytes, tokens[k])? {
