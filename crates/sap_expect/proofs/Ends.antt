@@ -24,7 +24,7 @@ a_zero = number (codes "0")
 abbrev pub an_empty : Word
 an_empty = quoted []
 
-abbrev is_lettered : Word → Bool
+abbrev pub is_lettered : Word → Bool
 is_lettered (mark x) = true
 is_lettered (name x) = is_lower x || is_upper x
 is_lettered (number x) = true
@@ -35,6 +35,12 @@ lettered_of (mark x) e = tt
 lettered_of (name x) e = e
 lettered_of (number x) e = tt
 lettered_of (quoted x) e = tt
+
+pub all_lettered : (ws : List Word) → list_all is_lettered ws ≡ true → AreLettered ws
+all_lettered [] e = tt
+all_lettered (w ∷ ws) e =
+    let b = both_true (is_lettered w) (list_all is_lettered ws) e in
+    (lettered_of w b.0, all_lettered ws b.1)
 
 -- the first of them is quiet
 abbrev pub QuietWords : List Word → Type 0

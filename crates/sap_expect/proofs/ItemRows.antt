@@ -56,12 +56,12 @@ quoted_formula {k = k} q =
 some_levels : 1 ≤ MOST_PROCESS_LEVELS
 some_levels = omega arith
 
-module _ (g : Sig) {m n : ℕ} {w : Word} {a : List Word} {k : ℕ} {b : List Word} where
-  pub file_row : AreRow (of_items g) (rows File) m n w a k b → SomeFile (w ∷ a) b
+module _ (g : Sig) (m n : ℕ) where
+  pub file_row : {w : Word} {a : List Word} {k : ℕ} {b : List Word} → AreRow (of_items g) (rows File) m n w a k b → SomeFile (w ∷ a) b
   file_row (inl (is_sign, o, (i, c, first is_any, (j, d, first is_sign, (x, e, q, same))))) = some_file q
   file_row (inr (_, h)) = absurd h
 
-  pub items_row : AreRow (of_items g) (rows Items) m n w a k b → SomeItems (w ∷ a) b
+  pub items_row : {w : Word} {a : List Word} {k : ℕ} {b : List Word} → AreRow (of_items g) (rows Items) m n w a k b → SomeItems (w ∷ a) b
   items_row (inl (is_sign, o, (i, c, first is_sign, (j, d, (v, s), (x, e, more, same))))) = builtins_item g (builtins_of s more)
   items_row (inr (_, inl (is_sign, o, (i, c, first is_sign, (j, d, h, same))))) = functions_item g h
   items_row (inr (_, inr (_, inl (is_sign, o, (i, c, first is_any, (j, d, (xs, s), (x, e, p, (y, f, h, same)))))))) =
@@ -76,7 +76,7 @@ module _ (g : Sig) {m n : ℕ} {w : Word} {a : List Word} {k : ℕ} {b : List Wo
   items_row (inr (_, inr (_, inr (_, inr (_, inr (_, inr (_, inl (is_sign, o, same)))))))) = end_items
   items_row (inr (_, inr (_, inr (_, inr (_, inr (_, inr (_, inr (_, h)))))))) = absurd h
 
-  pub builtin_row : AreRow (of_items g) (rows ABuiltin) m n w a k b → SomeBuiltin (w ∷ a) b
+  pub builtin_row : {w : Word} {a : List Word} {k : ℕ} {b : List Word} → AreRow (of_items g) (rows ABuiltin) m n w a k b → SomeBuiltin (w ∷ a) b
   builtin_row (inl (is_named, o, same)) = (_, spells_hashing)
   builtin_row (inr (_, inl (is_named, o, (i, c, first is_sign, (j, d, first is_named, same))))) = (_, spells_symmetric)
   builtin_row (inr (_, inr (_, inl (is_named, o, (i, c, first is_sign, (j, d, first is_named, same)))))) = (_, spells_asymmetric)
@@ -84,58 +84,58 @@ module _ (g : Sig) {m n : ℕ} {w : Word} {a : List Word} {k : ℕ} {b : List Wo
   builtin_row (inr (_, inr (_, inr (_, inr (_, inl (is_named, o, (i, c, first is_sign, (j, d, first is_named, same)))))))) = (_, spells_revealing)
   builtin_row (inr (_, inr (_, inr (_, inr (_, inr (_, h)))))) = absurd h
 
-  pub more_builtins_row : AreRow (of_items g) (rows MoreBuiltins) m n w a k b → AreMoreBuiltins (w ∷ a) b
+  pub more_builtins_row : {w : Word} {a : List Word} {k : ℕ} {b : List Word} → AreRow (of_items g) (rows MoreBuiltins) m n w a k b → AreMoreBuiltins (w ∷ a) b
   more_builtins_row (inl (is_sign, o, (i, c, (v, s), (j, d, more, same)))) = builtins_some (builtins_of s more)
   more_builtins_row (inr (_, h)) = absurd h
 
-  pub more_builtins_other : AreOther (of_items g) (otherwise MoreBuiltins) m n (w ∷ a) k b → AreMoreBuiltins (w ∷ a) b
+  pub more_builtins_other : {w : Word} {a : List Word} {k : ℕ} {b : List Word} → AreOther (of_items g) (otherwise MoreBuiltins) m n (w ∷ a) k b → AreMoreBuiltins (w ∷ a) b
   more_builtins_other (o, (i, c, h, same)) = builtins_none h
 
-  pub function_row : AreRow (of_items g) (rows Function) m n w a k b → HasSymbols (w ∷ a) b
+  pub function_row : {w : Word} {a : List Word} {k : ℕ} {b : List Word} → AreRow (of_items g) (rows Function) m n w a k b → HasSymbols (w ∷ a) b
   function_row (inl (is_small low, o, (i, c, first is_sign, (j, d, first (is_arity_word few), (x, e, q, same))))) = symbols_of _ _ low few q
   function_row (inr (_, h)) = absurd h
 
-  pub privacy_row : AreRow (of_items g) (rows Privacy) m n w a k b → IsBehindArity (w ∷ a) b
+  pub privacy_row : {w : Word} {a : List Word} {k : ℕ} {b : List Word} → AreRow (of_items g) (rows Privacy) m n w a k b → IsBehindArity (w ∷ a) b
   privacy_row (inl (is_sign, o, (i, c, first is_named, (j, d, first is_sign, (x, e, q, same))))) = is_private q
   privacy_row (inr (_, h)) = absurd h
 
-  pub privacy_other : AreOther (of_items g) (otherwise Privacy) m n (w ∷ a) k b → IsBehindArity (w ∷ a) b
+  pub privacy_other : {w : Word} {a : List Word} {k : ℕ} {b : List Word} → AreOther (of_items g) (otherwise Privacy) m n (w ∷ a) k b → IsBehindArity (w ∷ a) b
   privacy_other (o, (i, c, q, same)) = not_private q
 
-  pub more_functions_row : AreRow (of_items g) (rows MoreFunctions) m n w a k b → AreMoreSymbols (w ∷ a) b
+  pub more_functions_row : {w : Word} {a : List Word} {k : ℕ} {b : List Word} → AreRow (of_items g) (rows MoreFunctions) m n w a k b → AreMoreSymbols (w ∷ a) b
   more_functions_row (inl (is_sign, o, (i, c, q, same))) = symbols_some q
   more_functions_row (inr (_, h)) = absurd h
 
-  pub more_functions_other : AreOther (of_items g) (otherwise MoreFunctions) m n (w ∷ a) k b → AreMoreSymbols (w ∷ a) b
+  pub more_functions_other : {w : Word} {a : List Word} {k : ℕ} {b : List Word} → AreOther (of_items g) (otherwise MoreFunctions) m n (w ∷ a) k b → AreMoreSymbols (w ∷ a) b
   more_functions_other (o, (i, c, h, same)) = symbols_none h
 
-  pub parameters_row : AreRow (of_items g) (rows Parameters) m n w a k b → SomeParameters (w ∷ a) b
+  pub parameters_row : {w : Word} {a : List Word} {k : ℕ} {b : List Word} → AreRow (of_items g) (rows Parameters) m n w a k b → SomeParameters (w ∷ a) b
   parameters_row (inl (is_sign, o, same)) = (_, without_parameters)
   parameters_row (inr (_, inl (is_sign, o, (i, c, first is_any, (j, d, more, (x, e, first is_sign, same)))))) = (_, with_parameters (parameters_of _ more).1)
   parameters_row (inr (_, inr (_, h))) = absurd h
 
-  pub more_parameters_row : AreRow (of_items g) (rows MoreParameters) m n w a k b → AreMoreParameters (w ∷ a) b
+  pub more_parameters_row : {w : Word} {a : List Word} {k : ℕ} {b : List Word} → AreRow (of_items g) (rows MoreParameters) m n w a k b → AreMoreParameters (w ∷ a) b
   more_parameters_row (inl (is_sign, o, same)) = parameters_end
   more_parameters_row (inr (_, inl (is_sign, o, (i, c, first is_any, (j, d, more, same))))) = parameters_next (parameters_of _ more).1
   more_parameters_row (inr (_, inr (_, h))) = absurd h
 
-  pub lemma_row : AreRow (of_items g) (rows Lemma) m n w a k b → SomeLemma g (w ∷ a) b
+  pub lemma_row : {w : Word} {a : List Word} {k : ℕ} {b : List Word} → AreRow (of_items g) (rows Lemma) m n w a k b → SomeLemma g (w ∷ a) b
   lemma_row (inl (is_sign, o, (i, c, s, (j, d, more, (x, e, first is_sign, (y, f, q, same)))))) = some_lemma (with_attributes (attributes_of s more).1) q
   lemma_row (inr (_, inl (is_sign, o, (i, c, q, same)))) = some_lemma without_attributes q
   lemma_row (inr (_, inr (_, h))) = absurd h
 
-  pub attribute_row : AreRow (of_items g) (rows Attribute) m n w a k b → SomeAttribute (w ∷ a) b
+  pub attribute_row : {w : Word} {a : List Word} {k : ℕ} {b : List Word} → AreRow (of_items g) (rows Attribute) m n w a k b → SomeAttribute (w ∷ a) b
   attribute_row (inl (is_named, o, same)) = some_attribute is_reuse
   attribute_row (inr (_, inl (is_named, o, same))) = some_attribute is_use_induction
   attribute_row (inr (_, inr (_, inl (is_named, o, same)))) = some_attribute is_sources
   attribute_row (inr (_, inr (_, inr (_, h)))) = absurd h
 
-  pub more_attributes_row : AreRow (of_items g) (rows MoreAttributes) m n w a k b → AreMoreAttributes (w ∷ a) b
+  pub more_attributes_row : {w : Word} {a : List Word} {k : ℕ} {b : List Word} → AreRow (of_items g) (rows MoreAttributes) m n w a k b → AreMoreAttributes (w ∷ a) b
   more_attributes_row (inl (is_sign, o, (i, c, s, (j, d, more, same)))) = attributes_next (attributes_of s more).1
   more_attributes_row (inr (_, inl (is_sign, o, same))) = attributes_end
   more_attributes_row (inr (_, inr (_, h))) = absurd h
 
-  pub mode_row : AreRow (of_items g) (rows Mode) m n w a k b → SomeMode g (w ∷ a) b
+  pub mode_row : {w : Word} {a : List Word} {k : ℕ} {b : List Word} → AreRow (of_items g) (rows Mode) m n w a k b → SomeMode g (w ∷ a) b
   mode_row (inl (is_sign, o, (i, c, q, (j, d, first is_sign, same)))) = some_mode mode_missing (quoted_formula q).1
   mode_row (inr (_, inl (is_named, o, (i, c, first is_sign, (j, d, first is_named, (x, e, first is_sign, (y, f, q, (z, p, first is_sign, same)))))))) = some_mode mode_all (quoted_formula q).1
   mode_row (inr (_, inr (_, inl (is_named, o, (i, c, first is_sign, (j, d, first is_named, (x, e, first is_sign, (y, f, q, (z, p, first is_sign, same))))))))) = some_mode mode_exists (quoted_formula q).1

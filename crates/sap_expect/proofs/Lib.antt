@@ -5,14 +5,15 @@ pub mod Turns
 pub mod OnRows
 pub mod Quiet
 pub mod Ends
+pub mod ReachedEnds
 pub mod FirstWrong
 pub mod Reaching
 pub mod FollowTerms
 pub mod FollowProcess
 pub mod FollowFormula
 pub mod FreeItems
-pub mod Fronts
 pub mod FormulaFronts
+pub mod Fronts
 pub mod FileParts
 pub mod FollowItems
 pub mod ItemsByHand

@@ -41,57 +41,57 @@ not_first : (t : Turn) (c : Bool) → (if c then Some t else None) ≡ None → 
 not_first t true e = absurd (cc (e))
 not_first t false e = refl
 
-module _ {g : Sig} {m n : ℕ} {w : Word} {a : List Word} {k : ℕ} {b : List Word} where
-  pub new_name_row : AreRow (of_processes g) (rows NewName) m n w a k b → IsNewName (w ∷ a) b
+module _ (g : Sig) (m n : ℕ) where
+  pub new_name_row : {w : Word} {a : List Word} {k : ℕ} {b : List Word} → AreRow (of_processes g) (rows NewName) m n w a k b → IsNewName (w ∷ a) b
   new_name_row (inl (is_sign, o, (i, c, first is_any, same))) = new_fresh
   new_name_row (inr (_, inl (is_any, o, same))) = new_message
   new_name_row (inr (_, inr (_, h))) = absurd h
 
-  pub message_row : AreRow (of_processes g) (rows Message) m n w a k b → HasMessage g (w ∷ a) b
+  pub message_row : {w : Word} {a : List Word} {k : ℕ} {b : List Word} → AreRow (of_processes g) (rows Message) m n w a k b → HasMessage g (w ∷ a) b
   message_row (inl (is_sign, o, same)) = message_end
   message_row (inr (_, inl (is_sign, o, (i, c, t, (j, d, first is_sign, same))))) = message_second (short_of t).1
   message_row (inr (_, inr (_, h))) = absurd h
 
-  pub arrow_row : AreRow (of_processes g) (rows Arrow) m n w a k b → HasArrow g (w ∷ a) b
+  pub arrow_row : {w : Word} {a : List Word} {k : ℕ} {b : List Word} → AreRow (of_processes g) (rows Arrow) m n w a k b → HasArrow g (w ∷ a) b
   arrow_row (inl (is_sign, o, (i, c, first is_sign, (j, d, fs, same)))) = arrow_plain fs
   arrow_row (inr (_, inl (is_sign, o, (i, c, es, (j, d, first is_sign, (x, e, fs, same)))))) = arrow_shows es fs
   arrow_row (inr (_, inr (_, h))) = absurd h
 
-  pub arguments_row : AreRow (of_processes g) (rows Arguments) m n w a k b → HasArguments g (w ∷ a) k b
+  pub arguments_row : {w : Word} {a : List Word} {k : ℕ} {b : List Word} → AreRow (of_processes g) (rows Arguments) m n w a k b → HasArguments g (w ∷ a) k b
   arguments_row (inl (is_sign, o, (i, c, t, (j, d, more, (x, e, is_changed, same))))) = let l = small_list t more in with_arguments l.1 l.2
   arguments_row (inr (_, h)) = absurd h
 
-  pub arguments_other : AreOther (of_processes g) (otherwise Arguments) m n (w ∷ a) k b → HasArguments g (w ∷ a) k b
+  pub arguments_other : {w : Word} {a : List Word} {k : ℕ} {b : List Word} → AreOther (of_processes g) (otherwise Arguments) m n (w ∷ a) k b → HasArguments g (w ∷ a) k b
   arguments_other (o, (i, c, is_changed, same)) = without_arguments
 
-  pub then_row : AreRow (of_processes g) (rows Then) m n w a k b → 2 ≤ m → HasThen g m (w ∷ a) k b
+  pub then_row : {w : Word} {a : List Word} {k : ℕ} {b : List Word} → AreRow (of_processes g) (rows Then) m n w a k b → 2 ≤ m → HasThen g m (w ∷ a) k b
   then_row (inl (is_sign, o, (i, c, s, (j, d, is_changed, same)))) two = then_some (s (below m two))
   then_row (inr (_, h)) two = absurd h
 
-  pub then_other : AreOther (of_processes g) (otherwise Then) m n (w ∷ a) k b → 2 ≤ m → HasThen g m (w ∷ a) k b
+  pub then_other : {w : Word} {a : List Word} {k : ℕ} {b : List Word} → AreOther (of_processes g) (otherwise Then) m n (w ∷ a) k b → 2 ≤ m → HasThen g m (w ∷ a) k b
   then_other (o, (i, c, is_changed, same)) two = then_none
 
-  pub else_row : AreRow (of_processes g) (rows Else) m n w a k b → 2 ≤ m → HasElse g m n (w ∷ a) k b
+  pub else_row : {w : Word} {a : List Word} {k : ℕ} {b : List Word} → AreRow (of_processes g) (rows Else) m n w a k b → 2 ≤ m → HasElse g m n (w ∷ a) k b
   else_row (inl (is_sign, o, (i, c, s, (j, d, is_changed, same)))) two = else_some (s (below m two))
   else_row (inr (_, h)) two = absurd h
 
-  pub else_other : row Else w ≡ None → AreOther (of_processes g) (otherwise Else) m n (w ∷ a) k b → 2 ≤ m → HasElse g m n (w ∷ a) k b
+  pub else_other : {w : Word} {a : List Word} {k : ℕ} {b : List Word} → row Else w ≡ None → AreOther (of_processes g) (otherwise Else) m n (w ∷ a) k b → 2 ≤ m → HasElse g m n (w ∷ a) k b
   else_other e (o, (i, c, is_changed, same)) two = else_none (not_first _ (is_mark (codes "else") w) e)
 
-  pub process_other : AreOther (of_processes g) (otherwise Process) m n (w ∷ a) k b → 1 ≤ m → HasProcess g m (w ∷ a) k b
+  pub process_other : {w : Word} {a : List Word} {k : ℕ} {b : List Word} → AreOther (of_processes g) (otherwise Process) m n (w ∷ a) k b → 1 ≤ m → HasProcess g m (w ∷ a) k b
   process_other (o, (i, c, s, (j, d, bars, same))) one =
       let h = s one in
       process_of h (bars (seq_levels h.is))
 
-  pub bars_row : AreRow (of_processes g) (rows Bars) m n w a k b → 1 ≤ n → HasBars g m n (w ∷ a) k b
+  pub bars_row : {w : Word} {a : List Word} {k : ℕ} {b : List Word} → AreRow (of_processes g) (rows Bars) m n w a k b → 1 ≤ n → HasBars g m n (w ∷ a) k b
   bars_row (inl (is_sign, o, (i, c, p, (j, d, is_changed, same)))) one = let on = le_of (n + 1) m o in bars_more on one_bar (p (below_bar n m on one))
   bars_row (inr (_, inl (is_sign, o, (i, c, p, (j, d, is_changed, same))))) one = let on = le_of (n + 1) m o in bars_more on two_bars (p (below_bar n m on one))
   bars_row (inr (_, inr (_, h))) one = absurd h
 
-  pub bars_other : AreOther (of_processes g) (otherwise Bars) m n (w ∷ a) k b → 1 ≤ n → HasBars g m n (w ∷ a) k b
+  pub bars_other : {w : Word} {a : List Word} {k : ℕ} {b : List Word} → AreOther (of_processes g) (otherwise Bars) m n (w ∷ a) k b → 1 ≤ n → HasBars g m n (w ∷ a) k b
   bars_other (o, same) one = bars_none
 
-  pub sequence_row : AreRow (of_processes g) (rows Sequence) m n w a k b → 1 ≤ m → HasSequence g m (w ∷ a) k b
+  pub sequence_row : {w : Word} {a : List Word} {k : ℕ} {b : List Word} → AreRow (of_processes g) (rows Sequence) m n w a k b → 1 ≤ m → HasSequence g m (w ∷ a) k b
   sequence_row (inl (is_zero, o, (i, c, is_changed, same))) one = nil_sequence one
   sequence_row (inr (_, inl (is_any, o, (i, c, s, same)))) one = use_sequence _ one s
   sequence_row (inr (_, inr (_, inl (is_sign, o, (i, c, p, (j, d, first is_sign, (x, e, is_changed, same))))))) one =

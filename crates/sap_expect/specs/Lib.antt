@@ -1,7 +1,7 @@
 pub mod FirstWrong
 pub mod FileTable
-pub mod Letters
 pub mod FileWords
+pub mod Letters
 pub mod LevelExamples
 pub mod ItemExamples
 pub mod code

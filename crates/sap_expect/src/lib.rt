@@ -9,8 +9,8 @@ mod table;
 mod walk;
 mod wanted;
 
-pub use file_laws::files_are_their_words;
-pub use laws::{files_follow_the_table, items_by_hand, table_goes_on};
+pub use file_laws::{files_are_their_words, table_is_the_grammar};
+pub use laws::{items_by_hand, table_goes_on};
 pub use level_laws::levels_by_hand;
 pub use part_laws::{
     facts_that_follow_are_spelled, formulas_that_follow_are_spelled, names_without_letters,

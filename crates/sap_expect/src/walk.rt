@@ -1,10 +1,12 @@
 //! The first word of a file that is wrong by the table of its words.
 ghost use Rattle.std.specs.Prelude.{◌≡◌, ◌+◌, [], ◌∷◌, ◌++◌, true, false, IfOk, OnOk, MatchOption, map};
 ghost use Rattle.std.specs.Option.{option_copied};
+ghost use Rattle.sap_text.specs.Spans.{AreTokens};
 ghost use Rattle.sap_text.specs.declared.token.Token.{Token};
 ghost use Rattle.sap_grammar.specs.Words.{is_lower, is_upper, word_of, words_of};
 ghost use Rattle.sap_expect.specs.declared.wanted.Limit.{Limit};
-ghost use Rattle.sap_expect.specs.FileTable.{part as part_of, FollowsTable, all_opened, changed, holds, is_arity, is_such, is_wanted, limit as limit_of, opened, otherwise, row_among, rows};
+ghost use Rattle.sap_expect.specs.FileTable.{part as part_of, all_opened, changed, holds, is_arity, is_such, is_wanted, limit as limit_of, opened, otherwise, row_among, rows};
+ghost use Rattle.sap_expect.specs.FileWords.{IsFileWords};
 ghost use Rattle.sap_expect.specs.FirstWrong.{IsFirstWrong};
 ghost use Rattle.sap_expect.specs.code.Steps.{Stepped, Taken};
 ghost use Rattle.sap_expect.specs.code.WantedView.{all_wanted, open_of, row_of, stacked, turn_there, wanted as view};
@@ -15,7 +17,7 @@ use crate::wanted::{Change, Limit, Part, Test, Wanted};
 use sap_draft::FILE_LIMITS;
 use sap_grammar::{is_lower, is_mark, is_upper, name_at, names, number_at, quoted_at, starts_zero};
 use sap_terms::{MOST_ARITY, MOST_PROCESS_LEVELS, Mem};
-use sap_text::Token;
+use sap_text::{Token, spans_are_tokens};
 use std::alloc::Global;
 
 // Whether these are the digits of an arity.
@@ -261,7 +263,7 @@ fn push_all(stack: &mut Vec<Open>, wanted: &[Wanted], most: u64, levels: u64) ->
 #[derive(Drop)]
 struct Walk {
     levels: u64,
-    open: Vec<Open>,
+    stack: Vec<Open>,
 }
 
 impl Walk {
@@ -274,14 +276,14 @@ impl Walk {
         most: u64,
     ) -> Result<Option<bool>, Mem>
         ensures { IfOk result (λ o. (l : Limit) → Stepped self.old.levels
-            ((part_of part l, most) ∷ stacked self.old.open.items) (word_of bytes.now token)
-            self.new.levels (stacked self.new.open.items) o) }
+            ((part_of part l, most) ∷ stacked self.old.stack.items) (word_of bytes.now token)
+            self.new.levels (stacked self.new.stack.items) o) }
     {
         if let Some((test, rest)) = row_among(bytes, token, rows(part)) {
             if !holds(test, most, self.levels) {
                 return Ok(Some(false));
             }
-            push_all(&mut self.open, rest, most, self.levels)?;
+            push_all(&mut self.stack, rest, most, self.levels)?;
             return Ok(Some(true));
         }
         match otherwise(part) {
@@ -289,7 +291,7 @@ impl Walk {
                 if !holds(test, most, self.levels) {
                     return Ok(Some(false));
                 }
-                push_all(&mut self.open, other, most, self.levels)?;
+                push_all(&mut self.stack, other, most, self.levels)?;
                 Ok(None)
             }
             None => Ok(Some(false)),
@@ -298,10 +300,10 @@ impl Walk {
 
     // A step with what is wanted on top.
     fn step(&mut self, bytes: &[u8], token: Token) -> Result<Option<bool>, Mem>
-        ensures { IfOk result (λ o. Stepped self.old.levels (stacked self.old.open.items)
-            (word_of bytes.now token) self.new.levels (stacked self.new.open.items) o) }
+        ensures { IfOk result (λ o. Stepped self.old.levels (stacked self.old.stack.items)
+            (word_of bytes.now token) self.new.levels (stacked self.new.stack.items) o) }
     {
-        match self.open.pop() {
+        match self.stack.pop() {
             None => Ok(Some(false)),
             Some((wanted, number)) => match wanted {
                 Wanted::A(part, _) => self.step_part(bytes, token, part, number),
@@ -316,8 +318,8 @@ impl Walk {
 
     // Takes the token, where it may stand next; what is wanted behind it is open then.
     fn take(&mut self, bytes: &[u8], token: Token) -> Result<bool, Mem>
-        ensures { IfOk result (λ b. Taken self.old.levels (stacked self.old.open.items)
-            (word_of bytes.now token) self.new.levels (stacked self.new.open.items) b) }
+        ensures { IfOk result (λ b. Taken self.old.levels (stacked self.old.stack.items)
+            (word_of bytes.now token) self.new.levels (stacked self.new.stack.items) b) }
     {
         loop {
             if let Some(taken) = self.step(bytes, token)? {
@@ -327,24 +329,26 @@ impl Walk {
     }
 }
 
-/// The number of the first word that is wrong by the table, or that of the words, where only the end is missing; `None` where the
-/// words follow it. It goes over the tokens once, and takes no more of the stack the deeper they are nested. Want of memory is the
-/// only error.
+/// The number of the first word with which the words of the tokens begin no file's words any more, or how many there are, where only the
+/// end is missing; `None` where they are a file's words. It goes over the tokens once, and takes no more of the stack the deeper they are
+/// nested. Want of memory is the only error.
 pub fn first_wrong(alloc: Global, bytes: &[u8], tokens: &[Token]) -> Result<Option<usize>, Mem>
-    ensures { IfOk result (λ o. MatchOption o (FollowsTable (words_of bytes.now tokens.now))
-        (λ k. IsFirstWrong FollowsTable (words_of bytes.now tokens.now) k)) }
+    requires are { AreTokens bytes.now tokens.now }
+    ensures { IfOk result (λ o. MatchOption o (IsFileWords (words_of bytes.now tokens.now))
+        (λ k. IsFirstWrong IsFileWords (words_of bytes.now tokens.now) k)) }
 {
+    spans_are_tokens();
     let mut walk = Walk {
         levels: 0,
-        open: Vec::new(alloc),
+        stack: Vec::new(alloc),
     };
-    walk.open.push((Wanted::A(Part::File, Limit::Same), 0))?;
+    walk.stack.push((Wanted::A(Part::File, Limit::Same), 0))?;
     for k in 0..tokens.len() {
         if !walk.take(bytes, tokens[k])? {
             return Ok(Some(k));
         }
     }
-    if walk.open.is_empty() {
+    if walk.stack.is_empty() {
         Ok(None)
     } else {
         Ok(Some(tokens.len()))
