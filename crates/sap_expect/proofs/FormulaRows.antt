@@ -73,7 +73,6 @@ lower_of : (l u : Bool) → (l || u) ≡ true → u ≡ false → l ≡ true
 lower_of true u e f = refl
 lower_of false u e f = absurd (cc (e, f))
 
-
 -- ends there
 to_end : {g : Sig} (m : ℕ) {x : List Word} {n k : ℕ} {a b : List Word} → Same n a k b → SomeForm (IsUn g) x n a → IsBetween m n → SomeForm (IsUn g) x k b × IsBetween m k
 to_end m same s i = (s, i)

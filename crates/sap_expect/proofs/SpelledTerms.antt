@@ -60,8 +60,7 @@ module _ (g : Sig) where
       → (t : Tree) × (b : List Word) × IsTerm g t ws b × (level_count t ≤ m) × Reads (level_count t) vs b
   term_spelled n m l vs ws le r =
       let h = parts n ((part Term l, m) ∷ vs) ws r in
-      let s = h.1.2 le in
-      (
+      let s = h.1.2 le in (
         s.tree,
         h.1.1,
         s.is,
@@ -73,8 +72,7 @@ module _ (g : Sig) where
       → (ts : List Tree) × (b : List Word) × IsArgs g ts ws b × (trees_levels (trees_of ts) ≤ m) × Reads (trees_levels (trees_of ts)) vs b
   args_spelled n m l vs ws r =
       let h = parts n ((part Terms l, m) ∷ vs) ws r in
-      let s = h.1.2 in
-      (
+      let s = h.1.2 in (
         s.trees,
         h.1.1,
         s.are,

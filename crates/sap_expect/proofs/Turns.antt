@@ -79,6 +79,7 @@ popped n vs rest v i w b e never nor f =
     no_part Arity never p l e = absurd (cc)
     no_part (A q k) never p l e = never q k refl
     no_part (Level c) never p l e = absurd (cc)
+
     no_level : (v : code.Wanted) → ((c : Change) → v ≡ Level c → ⊥) → (c : Change) → wanted v ≡ level c → ⊥
     no_level (Mark m) never c e = absurd (cc)
     no_level (Named x) never c e = absurd (cc)

@@ -66,13 +66,30 @@ Row = Wanted × Test × List Wanted
 
 -- the rows of each part
 abbrev pub rows : Part → List Row
-rows File = (sign (codes "theory"), Always, any_name ∷ sign (codes "begin") ∷ part Items Same ∷ []) ∷ []
-rows Items =
-    (sign (codes "builtins"), Always, sign (codes ":") ∷ part Builtin Same ∷ part MoreBuiltins Same ∷ [])
+rows File =
+    (sign (codes "theory"), Always, any_name ∷ sign (codes "begin") ∷ part Items Same ∷ []) ∷ []
+rows Items = (
+  sign (codes "builtins"),
+  Always,
+  sign (codes ":") ∷ part Builtin Same ∷ part MoreBuiltins Same ∷ [],
+)
     ∷ (sign (codes "functions"), Always, sign (codes ":") ∷ part Function Same ∷ [])
-    ∷ (sign (codes "let"), Always, any_name ∷ part Parameters Same ∷ part Process OfProcess ∷ part Items Same ∷ [])
-    ∷ (sign (codes "process"), Always, sign (codes ":") ∷ part Process OfProcess ∷ part Items Same ∷ [])
-    ∷ (sign (codes "restriction"), Always, any_name ∷ sign (codes ":") ∷ sign (codes "\"") ∷ part Equivalence OfFormula ∷ sign (codes "\"") ∷ part Items Same ∷ [])
+    ∷ (
+      sign (codes "let"),
+      Always,
+      any_name ∷ part Parameters Same ∷ part Process OfProcess ∷ part Items Same ∷ [],
+    )
+    ∷ (
+      sign (codes "process"),
+      Always,
+      sign (codes ":") ∷ part Process OfProcess ∷ part Items Same ∷ [],
+    )
+    ∷ (
+      sign (codes "restriction"),
+      Always,
+      any_name ∷ sign (codes ":") ∷ sign (codes "\"") ∷ part Equivalence OfFormula
+          ∷ sign (codes "\"") ∷ part Items Same ∷ [],
+    )
     ∷ (sign (codes "lemma"), Always, any_name ∷ part Lemma Same ∷ part Items Same ∷ [])
     ∷ (sign (codes "end"), Always, []) ∷ []
 rows Builtin =
@@ -83,8 +100,11 @@ rows Builtin =
     ∷ (word (codes "revealing"), Always, sign (codes "-") ∷ word (codes "signing") ∷ []) ∷ []
 rows MoreBuiltins = (sign (codes ","), Always, part Builtin Same ∷ part MoreBuiltins Same ∷ []) ∷ []
 rows Function = (small, Always, sign (codes "/") ∷ arity ∷ part Privacy Same ∷ []) ∷ []
-rows Privacy =
-    (sign (codes "["), Always, word (codes "private") ∷ sign (codes "]") ∷ part MoreFunctions Same ∷ []) ∷ []
+rows Privacy = (
+  sign (codes "["),
+  Always,
+  word (codes "private") ∷ sign (codes "]") ∷ part MoreFunctions Same ∷ [],
+) ∷ []
 rows MoreFunctions = (sign (codes ","), Always, part Function Same ∷ []) ∷ []
 rows Parameters =
     (sign (codes "="), Always, [])
@@ -92,8 +112,12 @@ rows Parameters =
 rows MoreParameters =
     (sign (codes ")"), Always, [])
     ∷ (sign (codes ","), Always, any_name ∷ part MoreParameters Same ∷ []) ∷ []
-rows Lemma =
-    (sign (codes "["), Always, part Attribute Same ∷ part MoreAttributes Same ∷ sign (codes ":") ∷ part Mode Same ∷ [])
+rows Lemma = (
+  sign (codes "["),
+  Always,
+  part Attribute Same ∷ part MoreAttributes Same ∷ sign (codes ":") ∷ part Mode Same
+      ∷ [],
+)
     ∷ (sign (codes ":"), Always, part Mode Same ∷ []) ∷ []
 rows Attribute =
     (word (codes "reuse"), Always, [])
@@ -104,8 +128,18 @@ rows MoreAttributes =
     ∷ (sign (codes "]"), Always, []) ∷ []
 rows Mode =
     (sign (codes "\""), Always, part Equivalence OfFormula ∷ sign (codes "\"") ∷ [])
-    ∷ (word (codes "all"), Always, sign (codes "-") ∷ word (codes "traces") ∷ sign (codes "\"") ∷ part Equivalence OfFormula ∷ sign (codes "\"") ∷ [])
-    ∷ (word (codes "exists"), Always, sign (codes "-") ∷ word (codes "trace") ∷ sign (codes "\"") ∷ part Equivalence OfFormula ∷ sign (codes "\"") ∷ []) ∷ []
+    ∷ (
+      word (codes "all"),
+      Always,
+      sign (codes "-") ∷ word (codes "traces") ∷ sign (codes "\"")
+          ∷ part Equivalence OfFormula ∷ sign (codes "\"") ∷ [],
+    )
+    ∷ (
+      word (codes "exists"),
+      Always,
+      sign (codes "-") ∷ word (codes "trace") ∷ sign (codes "\"")
+          ∷ part Equivalence OfFormula ∷ sign (codes "\"") ∷ [],
+    ) ∷ []
 rows Process = []
 rows Bars =
     (sign (codes "|"), GoesOn, part Process Below ∷ level Joined ∷ [])
@@ -116,17 +150,44 @@ rows Sequence =
     ∷ (sign (codes "("), HasRoom, part Process Below ∷ sign (codes ")") ∷ level More ∷ [])
     ∷ (sign (codes "!"), HasRoom, part Sequence Below ∷ level More ∷ [])
     ∷ (sign (codes "new"), HasRoom, part NewName Same ∷ part Then Same ∷ [])
-    ∷ (sign (codes "out"), HasRoom, sign (codes "(") ∷ part Term OfTerm ∷ part Message Same ∷ part Then Same ∷ [])
-    ∷ (sign (codes "in"), HasRoom, sign (codes "(") ∷ part Term OfTerm ∷ part Message Same ∷ part Then Same ∷ [])
-    ∷ (sign (codes "event"), HasRoom, capital ∷ sign (codes "(") ∷ part Terms OfTerm ∷ part Then Same ∷ [])
-    ∷ (sign (codes "insert"), HasRoom, part Term OfTerm ∷ sign (codes ",") ∷ part Term OfTerm ∷ part Then Same ∷ [])
+    ∷ (
+      sign (codes "out"),
+      HasRoom,
+      sign (codes "(") ∷ part Term OfTerm ∷ part Message Same ∷ part Then Same ∷ [],
+    )
+    ∷ (
+      sign (codes "in"),
+      HasRoom,
+      sign (codes "(") ∷ part Term OfTerm ∷ part Message Same ∷ part Then Same ∷ [],
+    )
+    ∷ (
+      sign (codes "event"),
+      HasRoom,
+      capital ∷ sign (codes "(") ∷ part Terms OfTerm ∷ part Then Same ∷ [],
+    )
+    ∷ (
+      sign (codes "insert"),
+      HasRoom,
+      part Term OfTerm ∷ sign (codes ",") ∷ part Term OfTerm ∷ part Then Same ∷ [],
+    )
     ∷ (sign (codes "delete"), HasRoom, part Term OfTerm ∷ part Then Same ∷ [])
     ∷ (sign (codes "lock"), HasRoom, part Term OfTerm ∷ part Then Same ∷ [])
     ∷ (sign (codes "unlock"), HasRoom, part Term OfTerm ∷ part Then Same ∷ [])
     ∷ (sign (codes "["), HasRoom, part Facts Same ∷ part Arrow Same ∷ part Then Same ∷ [])
-    ∷ (sign (codes "if"), HasRoom, part Term OfTerm ∷ sign (codes "=") ∷ part Term OfTerm ∷ sign (codes "then") ∷ part Sequence Below ∷ part Else Same ∷ [])
-    ∷ (sign (codes "lookup"), HasRoom, part Term OfTerm ∷ sign (codes "as") ∷ any_name ∷ sign (codes "in") ∷ part Sequence Below ∷ part Else Same ∷ []) ∷ []
-rows Arguments = (sign (codes "("), Always, part Term OfTerm ∷ part MoreTerms OfTerm ∷ level One ∷ []) ∷ []
+    ∷ (
+      sign (codes "if"),
+      HasRoom,
+      part Term OfTerm ∷ sign (codes "=") ∷ part Term OfTerm ∷ sign (codes "then")
+          ∷ part Sequence Below ∷ part Else Same ∷ [],
+    )
+    ∷ (
+      sign (codes "lookup"),
+      HasRoom,
+      part Term OfTerm ∷ sign (codes "as") ∷ any_name ∷ sign (codes "in")
+          ∷ part Sequence Below ∷ part Else Same ∷ [],
+    ) ∷ []
+rows Arguments =
+    (sign (codes "("), Always, part Term OfTerm ∷ part MoreTerms OfTerm ∷ level One ∷ []) ∷ []
 rows Then = (sign (codes ";"), Always, part Sequence Below ∷ level More ∷ []) ∷ []
 rows Else = (sign (codes "else"), Always, part Sequence Below ∷ level Joined ∷ []) ∷ []
 rows NewName =
@@ -150,7 +211,11 @@ rows Shown =
     ∷ (capital, Always, sign (codes "(") ∷ part Terms OfTerm ∷ part MoreShown Same ∷ []) ∷ []
 rows MoreShown =
     (sign (codes "]->"), Always, [])
-    ∷ (sign (codes ","), Always, capital ∷ sign (codes "(") ∷ part Terms OfTerm ∷ part MoreShown Same ∷ []) ∷ []
+    ∷ (
+      sign (codes ","),
+      Always,
+      capital ∷ sign (codes "(") ∷ part Terms OfTerm ∷ part MoreShown Same ∷ [],
+    ) ∷ []
 rows Term =
     (in_quotes, Always, level One ∷ [])
     ∷ (small, Always, part Application Same ∷ [])
@@ -163,7 +228,8 @@ rows Terms = (sign (codes ")"), Always, level Nothing ∷ []) ∷ []
 rows MoreTerms =
     (sign (codes ")"), Always, [])
     ∷ (sign (codes ","), Always, part Term Same ∷ level Deepest ∷ part MoreTerms Same ∷ []) ∷ []
-rows Pair = (sign (codes ","), Always, part Term Below ∷ part MoreParts Below ∷ level Joined ∷ []) ∷ []
+rows Pair =
+    (sign (codes ","), Always, part Term Below ∷ part MoreParts Below ∷ level Joined ∷ []) ∷ []
 rows MoreParts =
     (sign (codes ">"), Always, [])
     ∷ (sign (codes ","), GoesOn, part Term Below ∷ part MoreParts Below ∷ level Joined ∷ []) ∷ []
@@ -174,11 +240,17 @@ rows Ended = (sign (codes "<=>"), Never, []) ∷ []
 rows Implication = []
 rows MoreImplication = (sign (codes "==>"), GoesOn, part Implication Below ∷ level Joined ∷ []) ∷ []
 rows Disjunction = []
-rows MoreDisjunction =
-    (sign (codes "|"), GoesOn, part Conjunction Below ∷ level Joined ∷ part MoreDisjunction Same ∷ []) ∷ []
+rows MoreDisjunction = (
+  sign (codes "|"),
+  GoesOn,
+  part Conjunction Below ∷ level Joined ∷ part MoreDisjunction Same ∷ [],
+) ∷ []
 rows Conjunction = []
-rows MoreConjunction =
-    (sign (codes "&"), GoesOn, part Formula Below ∷ level Joined ∷ part MoreConjunction Same ∷ []) ∷ []
+rows MoreConjunction = (
+  sign (codes "&"),
+  GoesOn,
+  part Formula Below ∷ level Joined ∷ part MoreConjunction Same ∷ [],
+) ∷ []
 rows Formula =
     (word (codes "T"), Always, part Truth Same ∷ [])
     ∷ (word (codes "F"), Always, part Truth Same ∷ [])
@@ -186,8 +258,11 @@ rows Formula =
     ∷ (sign (codes "All"), HasRoom, part Binders Same ∷ part Equivalence Below ∷ level More ∷ [])
     ∷ (sign (codes "Ex"), HasRoom, part Binders Same ∷ part Equivalence Below ∷ level More ∷ [])
     ∷ (sign (codes "("), HasRoom, part Equivalence Below ∷ sign (codes ")") ∷ level More ∷ []) ∷ []
-rows Truth =
-    (sign (codes "("), Always, part Terms OfTerm ∷ sign (codes "@") ∷ part Time Same ∷ level One ∷ []) ∷ []
+rows Truth = (
+  sign (codes "("),
+  Always,
+  part Terms OfTerm ∷ sign (codes "@") ∷ part Time Same ∷ level One ∷ [],
+) ∷ []
 rows Atom =
     (capital, Always, part UpperAtom Same ∷ [])
     ∷ (any_name, Always, part LowerAtom Same ∷ [])
@@ -195,7 +270,11 @@ rows Atom =
     ∷ (in_quotes, Always, sign (codes "=") ∷ part Term Same ∷ [])
     ∷ (sign (codes "~"), Always, any_name ∷ sign (codes "=") ∷ part Term Same ∷ [])
     ∷ (sign (codes "$"), Always, any_name ∷ sign (codes "=") ∷ part Term Same ∷ [])
-    ∷ (sign (codes "<"), HasRoom, part Term Below ∷ part Pair Same ∷ sign (codes "=") ∷ part Term Same ∷ []) ∷ []
+    ∷ (
+      sign (codes "<"),
+      HasRoom,
+      part Term Below ∷ part Pair Same ∷ sign (codes "=") ∷ part Term Same ∷ [],
+    ) ∷ []
 rows UpperAtom =
     (sign (codes "("), Always, part Terms Same ∷ sign (codes "@") ∷ part Time Same ∷ [])
     ∷ (sign (codes "="), Always, part Term Same ∷ [])

@@ -158,7 +158,12 @@ fn otherwise(part: Part) -> Option<Turn>
         Part::MoreBuiltins | Part::MoreFunctions => Some(table::THE_ITEMS),
         Part::Privacy => Some(table::THE_FUNCTIONS),
         Part::Process => Some(table::A_SEQUENCE),
-        Part::Bars | Part::Ended | Part::MoreEquivalence | Part::MoreImplication | Part::MoreDisjunction | Part::MoreConjunction => Some(table::NO_MORE),
+        Part::Bars
+        | Part::Ended
+        | Part::MoreEquivalence
+        | Part::MoreImplication
+        | Part::MoreDisjunction
+        | Part::MoreConjunction => Some(table::NO_MORE),
         Part::Arguments | Part::Application | Part::Truth => Some(table::A_LEAF),
         Part::Then => Some(table::A_NIL),
         Part::Else => Some(table::NO_OTHER_BRANCH),
@@ -258,7 +263,7 @@ fn push_all(stack: &mut Vec<Open>, wanted: &[Wanted], most: u64, levels: u64) ->
 #[derive(Drop)]
 struct Walk {
     levels: u64,
-    open: Vec<Open>,
+    stack: Vec<Open>,
 }
 
 impl Walk {
@@ -271,14 +276,14 @@ impl Walk {
         most: u64,
     ) -> Result<Option<bool>, Mem>
         ensures { IfOk result (λ o. (l : Limit) → Stepped self.old.levels
-            ((part_of part l, most) ∷ stacked self.old.open.items) (word_of bytes.now token)
-            self.new.levels (stacked self.new.open.items) o) }
+            ((part_of part l, most) ∷ stacked self.old.stack.items) (word_of bytes.now token)
+            self.new.levels (stacked self.new.stack.items) o) }
     {
         if let Some((test, rest)) = row_among(bytes, token, rows(part)) {
             if !holds(test, most, self.levels) {
                 return Ok(Some(false));
             }
-            push_all(&mut self.open, rest, most, self.levels)?;
+            push_all(&mut self.stack, rest, most, self.levels)?;
             return Ok(Some(true));
         }
         match otherwise(part) {
@@ -286,7 +291,7 @@ impl Walk {
                 if !holds(test, most, self.levels) {
                     return Ok(Some(false));
                 }
-                push_all(&mut self.open, other, most, self.levels)?;
+                push_all(&mut self.stack, other, most, self.levels)?;
                 Ok(None)
             }
             None => Ok(Some(false)),
@@ -295,10 +300,10 @@ impl Walk {
 
     // A step with what is wanted on top.
     fn step(&mut self, bytes: &[u8], token: Token) -> Result<Option<bool>, Mem>
-        ensures { IfOk result (λ o. Stepped self.old.levels (stacked self.old.open.items)
-            (word_of bytes.now token) self.new.levels (stacked self.new.open.items) o) }
+        ensures { IfOk result (λ o. Stepped self.old.levels (stacked self.old.stack.items)
+            (word_of bytes.now token) self.new.levels (stacked self.new.stack.items) o) }
     {
-        match self.open.pop() {
+        match self.stack.pop() {
             None => Ok(Some(false)),
             Some((wanted, number)) => match wanted {
                 Wanted::A(part, _) => self.step_part(bytes, token, part, number),
@@ -313,8 +318,8 @@ impl Walk {
 
     // Takes the token, where it may stand next; what is wanted behind it is open then.
     fn take(&mut self, bytes: &[u8], token: Token) -> Result<bool, Mem>
-        ensures { IfOk result (λ b. Taken self.old.levels (stacked self.old.open.items)
-            (word_of bytes.now token) self.new.levels (stacked self.new.open.items) b) }
+        ensures { IfOk result (λ b. Taken self.old.levels (stacked self.old.stack.items)
+            (word_of bytes.now token) self.new.levels (stacked self.new.stack.items) b) }
     {
         loop {
             if let Some(taken) = self.step(bytes, token)? {
@@ -335,15 +340,15 @@ pub fn first_wrong(alloc: Global, bytes: &[u8], tokens: &[Token]) -> Result<Opti
     spans_are_tokens();
     let mut walk = Walk {
         levels: 0,
-        open: Vec::new(alloc),
+        stack: Vec::new(alloc),
     };
-    walk.open.push((Wanted::A(Part::File, Limit::Same), 0))?;
+    walk.stack.push((Wanted::A(Part::File, Limit::Same), 0))?;
     for k in 0..tokens.len() {
         if !walk.take(bytes, tokens[k])? {
             return Ok(Some(k));
         }
     }
-    if walk.open.is_empty() {
+    if walk.stack.is_empty() {
         Ok(None)
     } else {
         Ok(Some(tokens.len()))

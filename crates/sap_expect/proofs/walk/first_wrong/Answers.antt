@@ -22,24 +22,24 @@ returns-then-not-branch c =
     let h = rw c.if-not-branch.true at c.in_ok-take.ensures in
     let l : AreLettered (words_of c.args.bytes.now c.args.tokens.now) =
     words_lettered c.args.bytes.now c.args.tokens.now (λ k t e. c.spans_are_tokens.ensures c.args.bytes.now c.args.tokens.now k t c.requires e) in
-    wrong_token c.args.bytes.now c.args.tokens.now c.loop-k.k _ c.loop-k.walk.levels (stacked c.loop-k.walk.open.items) l c.loop-k-test.true c.loop-k.invariant h
+    wrong_token c.args.bytes.now c.args.tokens.now c.loop-k.k _ c.loop-k.walk.levels (stacked c.loop-k.walk.stack.items) l c.loop-k-test.true c.loop-k.invariant h
 
 pub loop-k-preserved : goal.loop-k-preserved
 loop-k-preserved c =
     let h = rw c.if-not-branch.false at c.in_ok-take.ensures in
-    next_token c.args.bytes.now c.args.tokens.now c.loop-k.k _ c.loop-k.walk.levels c.take.new.self.levels (stacked c.loop-k.walk.open.items) (stacked c.take.new.self.open.items)
+    next_token c.args.bytes.now c.args.tokens.now c.loop-k.k _ c.loop-k.walk.levels c.take.new.self.levels (stacked c.loop-k.walk.stack.items) (stacked c.take.new.self.stack.items)
     c.loop-k-test.true c.loop-k.invariant h
 
 pub returns-then-is_empty : goal.returns-then-is_empty
 returns-then-is_empty c =
-    let none : length c.loop-k.walk.open.items ≡ 0 = grind (arith, c.if-is_empty.ensures) in
+    let none : length c.loop-k.walk.stack.items ≡ 0 = grind (arith, c.if-is_empty.ensures) in
     let l : AreLettered (words_of c.args.bytes.now c.args.tokens.now) =
     words_lettered c.args.bytes.now c.args.tokens.now (λ k t e. c.spans_are_tokens.ensures c.args.bytes.now c.args.tokens.now k t c.requires e) in
-    follows_all c.args.bytes.now c.args.tokens.now c.loop-k.k c.loop-k.walk.levels c.loop-k.walk.open.items l c.loop-k.auto.k-end c.loop-k-test.false c.loop-k.invariant none
+    follows_all c.args.bytes.now c.args.tokens.now c.loop-k.k c.loop-k.walk.levels c.loop-k.walk.stack.items l c.loop-k.auto.k-end c.loop-k-test.false c.loop-k.invariant none
 
 pub returns : goal.returns
 returns c =
-    let some : length c.loop-k.walk.open.items ≡ 0 → ⊥ = λ e. grind (arith, c.if-is_empty.ensures, e) in
+    let some : length c.loop-k.walk.stack.items ≡ 0 → ⊥ = λ e. grind (arith, c.if-is_empty.ensures, e) in
     let l : AreLettered (words_of c.args.bytes.now c.args.tokens.now) =
     words_lettered c.args.bytes.now c.args.tokens.now (λ k t e. c.spans_are_tokens.ensures c.args.bytes.now c.args.tokens.now k t c.requires e) in
-    ends_early c.args.bytes.now c.args.tokens.now c.loop-k.k c.loop-k.walk.levels c.loop-k.walk.open.items l c.loop-k.auto.k-end c.loop-k-test.false c.loop-k.invariant some
+    ends_early c.args.bytes.now c.args.tokens.now c.loop-k.k c.loop-k.walk.levels c.loop-k.walk.stack.items l c.loop-k.auto.k-end c.loop-k-test.false c.loop-k.invariant some

@@ -5,4 +5,4 @@ use Rattle.sap_expect.proofs.FirstWrong.{Reached}
 use Rattle.sap_expect.proofs.walk.first_wrong.Given as goal
 
 abbrev pub invariant-loop-k : goal.invariant-loop-k
-invariant-loop-k l = Reached (take l.k (words_of l.bytes l.tokens)) l.walk.levels (stacked l.walk.open.items)
+invariant-loop-k l = Reached (take l.k (words_of l.bytes l.tokens)) l.walk.levels (stacked l.walk.stack.items)
