@@ -1,16 +1,16 @@
 -- Whatever is wanted can be had, if what may be missing has behind it what goes on with nothing before it.
-use Rattle.std.proofs.Common.{◌≡◌, ℕ, ◌+◌, ◌-◌, Bool, true, false, List, [], ◌∷◌, ◌++◌, Option, Some, None, refl, sym, ap, subst}
-use Rattle.std.specs.Prelude.{codes, not, ◌&&◌, ◌||◌, if◌then◌else◌}
+use Rattle.std.proofs.Common.{◌≡◌, ℕ, ◌+◌, Bool, true, false, List, [], ◌∷◌, ◌++◌, Option, Some, None, refl}
+use Rattle.std.specs.Prelude.{codes, not, ◌||◌, if◌then◌else◌}
 use Rattle.std.specs.List.{list_all}
 use Rattle.sap_terms.proofs.PlainLaws.Known.{own_name}
 use Rattle.sap_grammar.specs.Words.{Word, is_lower, is_mark, is_upper, mark, name, number, quoted}
 use Rattle.sap_expect.specs.declared.wanted.Limit.{Limit}
 use Rattle.sap_expect.specs.declared.wanted.Part.{Part}
 use Rattle.sap_expect.specs.declared.wanted.Part.TheVariants.{Application, Arguments, Arrow, Atom, Attribute, Bars, Binders, Builtin, Conjunction, Disjunction, Else, Ended, Equivalence, Fact, Facts, File, Formula, Function, Implication, Items, Lemma, LowerAtom, Message, Mode, MoreAttributes, MoreBinders, MoreBuiltins, MoreConjunction, MoreDisjunction, MoreEquivalence, MoreFacts, MoreFunctions, MoreImplication, MoreParameters, MoreParts, MoreShown, MoreTerms, NewName, Pair, Parameters, Privacy, Process, Sequence, Shown, Term, Terms, Then, Time, Times, Truth, UpperAtom}
-use Rattle.sap_expect.specs.FileTable.{Open, Reads, Turn, any_name, arity, capital, in_quotes, level, nil, part, reads_end, row, sign, small, word}
+use Rattle.sap_expect.specs.FileTable.{Open, Reads, any_name, arity, capital, in_quotes, level, nil, part, reads_end, row, sign, small, word}
 use Rattle.sap_expect.specs.Letters.{AreLettered, IsLettered}
 use Rattle.sap_expect.proofs.OnRows.{NoRow, NotNone, instead, on_level, on_row, on_word}
-use Rattle.sap_expect.proofs.Quiet.{both_true, can_close, closes, is_empty, is_open, is_quiet, quiet}
+use Rattle.sap_expect.proofs.Quiet.{both_true, can_close, closes, is_open, is_quiet, quiet}
 
 abbrev pub a_name : Word
 a_name = name (97 ∷ [])

@@ -6,7 +6,7 @@ use Rattle.sap_text.specs.declared.token.Token.{Token}
 use Rattle.sap_text.specs.Tokens.{IsLexed, Lexed}
 use Rattle.sap_terms.specs.Signature.{Sig, pairs_alone}
 use Rattle.sap_grammar.specs.Cut.{AreNoItemWords, IsCut, IsHeader, NoItemWord, Placed, StartsItem, cut_none, cut_one, is_item_word, placed, words}
-use Rattle.sap_grammar.specs.Items.{IsEnd, bad_item, items_end, items_more, later_item, no_end}
+use Rattle.sap_grammar.specs.Items.{bad_item, items_end, items_more, later_item, no_end}
 use Rattle.sap_grammar.specs.Signatures.{clash_from}
 use Rattle.sap_grammar.specs.Words.{Word, mark, name, words_of}
 use Rattle.sap_grammar.proofs.ReadingLaws.Tokens.{words_placed}

@@ -1,5 +1,5 @@
 -- Which word is the first with which no file goes on.
-use Rattle.std.proofs.Common.{◌≡◌, ◌≤◌, ◌<◌, ◌+◌, ℕ, zero, suc, Bool, true, List, [], ◌∷◌, ◌++◌, append_assoc, refl, sym, ap, ◌∙◌, subst, arith, length, get_or, take, drop}
+use Rattle.std.proofs.Common.{◌≡◌, ◌≤◌, ◌<◌, ◌+◌, ℕ, zero, suc, true, List, [], ◌∷◌, ◌++◌, append_assoc, refl, sym, ap, ◌∙◌, subst, arith, length, get_or, take, drop}
 use Rattle.std.proofs.lemmas.List.{append-nil}
 use Rattle.std.proofs.lemmas.List.{length-map, length-reverse}
 use Rattle.std.specs.Prelude.{map}
@@ -8,7 +8,7 @@ use Rattle.sap_terms.specs.Signature.{pairs_alone}
 use Rattle.sap_text.specs.declared.token.Token.{Token}
 use Rattle.sap_grammar.specs.Words.{Word, word_of, words_of}
 use Rattle.sap_grammar.proofs.ReadingLaws.Tokens.{length-words}
-use Rattle.sap_expect.specs.FileTable.{FollowsTable, Open, Reads, Takes, file, reads_end, reads_word}
+use Rattle.sap_expect.specs.FileTable.{Open, Reads, Takes, file, reads_end, reads_word}
 use Rattle.sap_expect.specs.FileWords.{IsFileWords}
 use Rattle.sap_expect.specs.FirstWrong.{IsFirstWrong}
 use Rattle.sap_expect.specs.Letters.{AreLettered}

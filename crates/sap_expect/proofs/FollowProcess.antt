@@ -1,5 +1,5 @@
 -- The words of processes follow the table, with their levels.
-use Rattle.std.proofs.Common.{◌≡◌, ◌≤◌, ◌+◌, ◌-◌, max, ℕ, Bool, true, false, List, [], ◌∷◌, ◌++◌, Some, None, refl, sym, subst, arith}
+use Rattle.std.proofs.Common.{◌≡◌, ◌≤◌, ◌+◌, ◌-◌, max, ℕ, Bool, true, false, List, [], ◌∷◌, ◌++◌, Some, None, refl, subst, arith}
 use Rattle.std.specs.Prelude.{codes, if◌then◌else◌}
 use Rattle.sap_terms.specs.Signature.{Sig}
 use Rattle.sap_grammar.specs.Words.{Word, is_mark, mark}
@@ -12,7 +12,7 @@ use Rattle.sap_expect.specs.declared.wanted.Limit.{Limit}
 use Rattle.sap_expect.specs.declared.wanted.Change.TheVariants.{Joined}
 use Rattle.sap_expect.specs.declared.wanted.Limit.TheVariants.{Below, Same}
 use Rattle.sap_expect.specs.declared.wanted.Part.TheVariants.{Application, Arguments, Bars, Else, Process, Sequence, Then}
-use Rattle.sap_expect.specs.declared.wanted.Test.TheVariants.{Always, HasRoom}
+use Rattle.sap_expect.specs.declared.wanted.Test.TheVariants.{HasRoom}
 use Rattle.sap_expect.specs.FileTable.{Open, Reads, Turn, holds, level, part}
 use Rattle.sap_expect.proofs.OnRows.{NoRow, NotNone, instead, on_level, on_row, on_word}
 use Rattle.sap_expect.proofs.FollowTerms.{IsPlain, args_follow, facts_follow, list_follows, plain, plain_of, shown_follow, small_levels, term_follows}

@@ -1,5 +1,5 @@
 -- The words of terms and facts follow the table, with their levels.
-use Rattle.std.proofs.Common.{◌≡◌, ◌≤◌, ◌+◌, ◌-◌, ℕ, Bool, true, false, List, [], ◌∷◌, ◌++◌, Some, None, refl, subst, arith}
+use Rattle.std.proofs.Common.{◌≡◌, ◌≤◌, ◌+◌, ℕ, Bool, true, false, List, [], ◌∷◌, ◌++◌, Some, refl, subst, arith}
 use Rattle.std.specs.Prelude.{codes, max, if◌then◌else◌}
 use Rattle.std.proofs.lemmas.List.Elements.{All-head, All-tail}
 use Rattle.sap_terms.specs.declared.fact.Fact.{Fact}
@@ -8,14 +8,14 @@ use Rattle.sap_terms.specs.Tree.{Tree, apply, fresh, level_count, public, trees_
 use Rattle.sap_grammar.specs.Words.{Word, is_lower, is_upper, mark, name}
 use Rattle.sap_grammar.proofs.ReadingLaws.Limits.{fits}
 use Rattle.sap_grammar.specs.Sizes.{AreSmall, IsSmall}
-use Rattle.sap_grammar.specs.TermGrammar.{IsArgs, IsList, IsRest, IsTerm, args_none, args_some, list_last, list_more, pair, rest_last, rest_more, term_constant, term_fresh, term_message, term_pub, term_quoted, term_symbol, term_tuple}
+use Rattle.sap_grammar.specs.TermGrammar.{IsArgs, IsList, IsRest, IsTerm, args_none, args_some, list_last, list_more, rest_last, rest_more, term_constant, term_fresh, term_message, term_pub, term_quoted, term_symbol, term_tuple}
 use Rattle.sap_grammar.specs.FactGrammar.{AreFacts, AreSomeFacts, IsFact, IsShortFact, fact_linear, fact_persistent, facts_last, facts_more, facts_none, facts_some}
 use Rattle.sap_draft.specs.declared.limits.TheConstants.{FILE_LIMITS}
 use Rattle.sap_expect.specs.declared.wanted.Change.TheVariants.{One}
 use Rattle.sap_expect.specs.declared.wanted.Limit.{Limit}
 use Rattle.sap_expect.specs.declared.wanted.Limit.TheVariants.{Same}
 use Rattle.sap_expect.specs.declared.wanted.Part.{Part}
-use Rattle.sap_expect.specs.declared.wanted.Part.TheVariants.{Application, Fact as AFact, Facts, MoreFacts, MoreParts, MoreShown, MoreTerms, Pair, Shown, Term, Terms}
+use Rattle.sap_expect.specs.declared.wanted.Part.TheVariants.{Application, Fact as AFact, Facts, MoreFacts, MoreParts, MoreShown, MoreTerms, Shown, Term, Terms}
 use Rattle.sap_expect.specs.declared.wanted.Test.TheVariants.{Always}
 use Rattle.sap_expect.specs.FileTable.{Open, Reads, level, part, reads_word, row}
 use Rattle.sap_expect.proofs.OnRows.{NoRow, NotNone, instead, on_level, on_nth, on_row, on_word}

@@ -6,7 +6,7 @@ use Rattle.sap_formula.specs.Form.{Form}
 use Rattle.sap_formula.specs.declared.binder.Binder.{Binder}
 use Rattle.sap_grammar.specs.declared.limits.Limits.{Limits}
 use Rattle.sap_grammar.specs.Words.{Word, mark, name, starts}
-use Rattle.sap_formula_grammar.specs.FormulaGrammar.{AreBinders, IsAnd, IsAtom, IsBinder, IsIff, IsImp, IsOr, IsShortFormula, IsTime, IsUn, Reach, and_more, and_one, atom_action, atom_earlier, atom_equal, atom_false, atom_same, atom_true, begins_truth, binders_last, binders_more, binds_fresh, binds_message, binds_pub, binds_time, iff_more, iff_one, imp_more, imp_one, is_truth, or_more, or_one, time_plain, time_signed, un_atom, un_every, un_exists, un_not, un_parentheses}
+use Rattle.sap_formula_grammar.specs.FormulaGrammar.{AreBinders, IsAnd, IsAtom, IsBinder, IsIff, IsImp, IsOr, IsShortFormula, IsTime, IsUn, Reach, and_more, and_one, atom_action, atom_earlier, atom_equal, atom_false, atom_same, atom_true, begins_truth, binders_last, binders_more, binds_fresh, binds_message, binds_pub, binds_time, iff_more, iff_one, imp_more, imp_one, or_more, or_one, time_plain, time_signed, un_atom, un_every, un_exists, un_not, un_parentheses}
 use Rattle.sap_expect.proofs.Fronts.{Before, Both, Front, Spelling, alone, before, both, fact_front, front, term_front}
 
 -- words up to those behind, that spell the same before any others that begin with no parenthesis

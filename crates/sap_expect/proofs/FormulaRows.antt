@@ -12,7 +12,7 @@ use Rattle.sap_expect.specs.declared.wanted.Part.TheVariants.{Atom, Binders, Con
 use Rattle.sap_expect.specs.FileTable.{Row, is_wanted, otherwise, row, row_among, rows}
 use Rattle.sap_expect.specs.Letters.{IsLettered}
 use Rattle.sap_expect.proofs.Meant.{AreOther, AreRow, Meaning, Same, first, is_any, is_capital, is_changed, is_named, is_quoted, is_sign, same}
-use Rattle.sap_expect.proofs.MeantTerms.{IsBetween, SomeTerm, name_term, symbol_term, tuple_term}
+use Rattle.sap_expect.proofs.MeantTerms.{IsBetween, name_term, symbol_term, tuple_term}
 use Rattle.sap_expect.proofs.FactRows.{of_facts, small_args}
 use Rattle.sap_expect.proofs.MeantFormulas.{AreMoreBinders, GoesOn, IsBehindLower, IsBehindTime, IsBehindTruth, IsBehindUpper, IsEnded, NoAnd, NoIff, NoImp, NoOr, Some as SomeForm, SomeAtom, SomeBinders, SomeTime, Whole, action_atom, and_alone, and_next, atom_of, binders_end, binders_next, binders_of, ended, equal_atom, every_of, exists_of, false_of, group_of, iff_alone, iff_next, imp_alone, imp_next, no_truth, not_of, one_and, one_or, or_alone, or_next, true_of, truth_alone, truth_fact, whole_of}
 

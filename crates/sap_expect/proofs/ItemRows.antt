@@ -1,5 +1,5 @@
 -- Rows of the table for items, backwards.
-use Rattle.std.proofs.Common.{◌≡◌, ◌≤◌, ℕ, inl, inr, List, ◌∷◌, arith}
+use Rattle.std.proofs.Common.{◌≤◌, ℕ, inl, inr, List, ◌∷◌, arith}
 use Rattle.sap_terms.specs.declared.limits.TheConstants.{MOST_PROCESS_LEVELS}
 use Rattle.sap_terms.specs.declared.signature.Builtin.{Builtin}
 use Rattle.sap_terms.specs.Signature.{Sig}

@@ -3,7 +3,7 @@ use Rattle.std.proofs.Common.{◌≡◌, ℕ, Bool, true, false, List, [], ◌�
 use Rattle.sap_grammar.specs.Words.{Word}
 use Rattle.sap_expect.specs.declared.wanted.Limit.TheVariants.{Same}
 use Rattle.sap_expect.specs.declared.wanted.Part.{Part}
-use Rattle.sap_expect.specs.FileTable.{Open, Takes, part}
+use Rattle.sap_expect.specs.FileTable.{Open, part}
 use Rattle.sap_expect.specs.LevelExamples.{AreTaken, MayBegin, more_taken, none_taken}
 use Rattle.sap_expect.proofs.Reaching.{Answer, State, next_at, next_told, reach, reach_by, turns}
 use Rattle.sap_expect.proofs.Takes.{one_next}

@@ -6,7 +6,6 @@ use Rattle.sap_terms.proofs.PlainLaws.Known.{one_name}
 use Rattle.sap_grammar.specs.Words.{Word, is_lower, is_upper, mark, name, number, quoted}
 use Rattle.sap_expect.specs.declared.wanted.Change.{Change}
 use Rattle.sap_expect.specs.declared.wanted.Part.{Part}
-use Rattle.sap_expect.specs.declared.wanted.Test.{Test}
 use Rattle.sap_expect.specs.FileTable.{Open, Reads, Row, Takes, Turn, Wanted, all_opened, any_name, arity, capital, changed, holds, in_quotes, is_arity, is_wanted, level, nil, otherwise, part, reads_end, reads_word, row, row_among, rows, sign, small, takes_level, takes_other, takes_row, takes_word, word}
 
 -- a word that is wanted alone

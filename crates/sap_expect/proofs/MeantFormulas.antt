@@ -3,15 +3,15 @@ use Rattle.std.proofs.Common.{◌≡◌, ◌≤◌, ◌+◌, ◌-◌, ℕ, Bool,
 use Rattle.std.specs.Prelude.{codes, max, ◌&&◌}
 use Rattle.sap_terms.specs.Signature.{Sig}
 use Rattle.sap_terms.specs.Tree.{Tree}
-use Rattle.sap_formula.specs.Form.{Form, truth, falsity, action, equal, same_time, earlier, negation, both, either, implies, equivalent, every, exists}
+use Rattle.sap_formula.specs.Form.{Form, equal, negation, both, either, implies, equivalent, every, exists}
 use Rattle.sap_formula.specs.declared.binder.Binder.{Binder}
 use Rattle.sap_grammar.specs.Sizes.{AreSmall}
 use Rattle.sap_grammar.specs.Words.{Word, is_lower, is_upper, mark, name, starts}
-use Rattle.sap_grammar.specs.TermGrammar.{IsArgs, term_fresh, term_pub, term_quoted}
+use Rattle.sap_grammar.specs.TermGrammar.{IsArgs}
 use Rattle.sap_grammar.specs.FactGrammar.{fact_linear}
-use Rattle.sap_formula_grammar.specs.FormulaGrammar.{AreBinders, IsAnd, IsAtom, IsBinder, IsIff, IsImp, IsOr, IsSmallForm, IsTime, IsUn, Reach, and_more, and_one, atom_action, atom_earlier, atom_equal, atom_false, atom_same, atom_true, begins_truth, binders_last, binders_more, closed, iff_more, iff_one, imp_more, imp_one, is_truth, or_more, or_one, reaching, time_plain, time_signed, un_atom, un_every, un_exists, un_not, un_parentheses}
+use Rattle.sap_formula_grammar.specs.FormulaGrammar.{AreBinders, IsAnd, IsAtom, IsBinder, IsIff, IsImp, IsOr, IsSmallForm, IsTime, IsUn, Reach, and_more, and_one, atom_action, atom_equal, atom_false, atom_true, begins_truth, binders_last, binders_more, closed, iff_more, iff_one, imp_more, imp_one, is_truth, or_more, or_one, reaching, un_atom, un_every, un_exists, un_not, un_parentheses}
 use Rattle.sap_draft.specs.declared.limits.TheConstants.{FILE_LIMITS}
-use Rattle.sap_expect.proofs.MeantTerms.{IsBetween, SomeArgs, SomeTerm, name_term, symbol_term}
+use Rattle.sap_expect.proofs.MeantTerms.{IsBetween, SomeArgs, SomeTerm}
 use Rattle.sap_expect.proofs.FactRows.{small_args, small_of}
 
 -- no sign stands next that joins two formulas: no `&`; nor `|`; nor `==>`; nor `<=>`

@@ -1,18 +1,18 @@
 -- What the words of processes are that the table takes, with their levels.
-use Rattle.std.proofs.Common.{◌≡◌, ◌≤◌, ◌+◌, ◌-◌, max, ℕ, Bool, true, false, List, [], ◌∷◌, refl, sym, subst, arith}
+use Rattle.std.proofs.Common.{◌≡◌, ◌≤◌, ◌+◌, ◌-◌, max, ℕ, Bool, true, false, List, [], ◌∷◌, subst, arith}
 use Rattle.std.specs.Prelude.{codes}
 use Rattle.sap_terms.specs.declared.fact.Fact.{Fact}
 use Rattle.sap_terms.specs.declared.var.Sort.TheVariants.{Msg}
 use Rattle.sap_terms.specs.Signature.{Sig}
 use Rattle.sap_terms.specs.Tree.{Tree}
 use Rattle.sap_grammar.specs.Sizes.{AreSmall}
-use Rattle.sap_grammar.specs.Words.{Word, is_upper, mark, name, number, starts}
-use Rattle.sap_grammar.specs.TermGrammar.{IsArgs, IsList, IsShort}
-use Rattle.sap_grammar.specs.FactGrammar.{AreFacts, IsShortFact}
-use Rattle.sap_process.specs.Action.{Action, out, send, input, receive, event, insert, delete, lock, unlock, embedded}
+use Rattle.sap_grammar.specs.Words.{Word, mark, name, number, starts}
+use Rattle.sap_grammar.specs.TermGrammar.{IsList, IsShort}
+use Rattle.sap_grammar.specs.FactGrammar.{AreFacts}
+use Rattle.sap_process.specs.Action.{Action}
 use Rattle.sap_macro.specs.Written.{Written, nil, call, parallel, replicated, act, test, lookup}
 use Rattle.sap_draft.specs.declared.limits.TheConstants.{FILE_LIMITS}
-use Rattle.sap_draft.specs.ProcessGrammar.{Ending, IsAction, IsBar, IsPar, IsSeq, action_acts, action_delete, action_event, action_input, action_insert, action_lock, action_new, action_new_fresh, action_out, action_receive, action_rule, action_send, action_unlock, closed, dangling, par_more, par_one, seq_action, seq_call, seq_if, seq_if_else, seq_lookup, seq_lookup_else, seq_nil, seq_parentheses, seq_replicated, seq_then, seq_use, var}
+use Rattle.sap_draft.specs.ProcessGrammar.{Ending, IsAction, IsBar, IsPar, IsSeq, action_acts, action_input, action_new, action_new_fresh, action_out, action_receive, action_rule, action_send, closed, dangling, par_more, par_one, seq_action, seq_call, seq_if, seq_if_else, seq_lookup, seq_lookup_else, seq_nil, seq_parentheses, seq_replicated, seq_then, seq_use, var}
 use Rattle.sap_expect.proofs.FollowProcess.{seq_levels}
 
 -- a term within a file's limits

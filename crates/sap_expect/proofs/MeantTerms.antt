@@ -1,10 +1,10 @@
 -- What the words of terms are that the table takes: n are the levels of what ended before them, k those of what ended last then.
-use Rattle.std.proofs.Common.{◌≡◌, ◌≤◌, ◌+◌, ◌-◌, ℕ, zero, suc, true, List, [], ◌∷◌, Option, Some, None, refl, arith}
+use Rattle.std.proofs.Common.{◌≡◌, ◌≤◌, ◌+◌, ◌-◌, ℕ, zero, suc, true, List, ◌∷◌, Option, Some, None, refl, arith}
 use Rattle.std.specs.Prelude.{codes, max}
 use Rattle.sap_terms.specs.Signature.{Sig, arity_of}
 use Rattle.sap_terms.specs.Tree.{Tree, level_count, trees_levels, trees_of}
 use Rattle.sap_grammar.specs.Words.{Word, is_lower, mark, name}
-use Rattle.sap_grammar.specs.TermGrammar.{IsArgs, IsConstant, IsList, IsRest, IsTerm, args_none, args_some, list_last, list_more, pair, rest_last, rest_more, term_constant, term_message, term_symbol, term_tuple}
+use Rattle.sap_grammar.specs.TermGrammar.{IsArgs, IsConstant, IsList, IsRest, IsTerm, args_some, list_more, pair, rest_more, term_constant, term_message, term_symbol, term_tuple}
 
 -- what has k levels has one, and at most m
 abbrev pub IsBetween : ℕ → ℕ → Type 0

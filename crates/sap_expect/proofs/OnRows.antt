@@ -6,7 +6,7 @@ use Rattle.sap_expect.specs.declared.wanted.Limit.{Limit}
 use Rattle.sap_expect.specs.declared.wanted.Part.{Part}
 use Rattle.sap_expect.specs.declared.wanted.Test.{Test}
 use Rattle.sap_expect.specs.declared.wanted.Test.TheVariants.{Always}
-use Rattle.sap_expect.specs.FileTable.{Open, Reads, Row, Takes, Turn, Wanted, all_opened, changed, holds, is_wanted, level, otherwise, part, reads_word, row, row_among, rows, takes_level, takes_other, takes_row, takes_word}
+use Rattle.sap_expect.specs.FileTable.{Open, Reads, Row, Takes, Wanted, all_opened, changed, holds, is_wanted, level, otherwise, part, reads_word, row, row_among, rows, takes_level, takes_other, takes_row, takes_word}
 
 -- no row of the part begins with the next word
 abbrev pub NoRow : Part → List Word → Type 0

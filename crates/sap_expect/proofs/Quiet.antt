@@ -3,11 +3,10 @@ use Rattle.std.proofs.Common.{◌≡◌, ℕ, Bool, true, false, List, [], ◌�
 use Rattle.std.specs.Prelude.{codes, not, ◌&&◌, ◌||◌, if◌then◌else◌}
 use Rattle.std.specs.List.{list_all}
 use Rattle.sap_grammar.specs.Words.{Word, is_lower, is_mark, is_upper, mark}
-use Rattle.sap_expect.specs.declared.wanted.Limit.{Limit}
 use Rattle.sap_expect.specs.declared.wanted.Part.{Part}
 use Rattle.sap_expect.specs.declared.wanted.Part.TheVariants.{Application, Arguments, Arrow, Atom, Attribute, Bars, Binders, Builtin, Conjunction, Disjunction, Else, Ended, Equivalence, Fact, Facts, File, Formula, Function, Implication, Items, Lemma, LowerAtom, Message, Mode, MoreAttributes, MoreBinders, MoreBuiltins, MoreConjunction, MoreDisjunction, MoreEquivalence, MoreFacts, MoreFunctions, MoreImplication, MoreParameters, MoreParts, MoreShown, MoreTerms, NewName, Pair, Parameters, Privacy, Process, Sequence, Shown, Term, Terms, Then, Time, Times, Truth, UpperAtom}
 use Rattle.sap_expect.specs.declared.wanted.Test.{Test}
-use Rattle.sap_expect.specs.FileTable.{Open, Row, Takes, Turn, Wanted, all_opened, any_name, arity, capital, in_quotes, is_wanted, level, nil, otherwise, part, row, row_among, rows, sign, small, takes_level, takes_other, takes_row, takes_word, word}
+use Rattle.sap_expect.specs.FileTable.{Open, Row, Takes, Turn, Wanted, all_opened, any_name, arity, capital, in_quotes, is_wanted, level, nil, otherwise, part, row_among, rows, sign, small, takes_level, takes_other, takes_row, takes_word, word}
 
 -- with this word nothing goes on that may be missing
 abbrev pub is_quiet : Word → Bool

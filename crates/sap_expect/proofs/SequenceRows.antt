@@ -1,17 +1,14 @@
 -- Rows of the table for processes, backwards.
-use Rattle.std.proofs.Common.{◌≡◌, ◌≤◌, ◌+◌, ◌-◌, ℕ, Bool, true, false, inl, inr, List, [], ◌∷◌, Option, Some, None, refl, sym, subst, arith}
+use Rattle.std.proofs.Common.{◌≡◌, ◌≤◌, ◌+◌, ◌-◌, ℕ, Bool, true, false, inl, inr, List, ◌∷◌, Some, None, refl, arith}
 use Rattle.std.specs.Prelude.{codes, if◌then◌else◌}
 use Rattle.sap_terms.specs.Signature.{Sig}
 use Rattle.sap_grammar.specs.Words.{Word, is_mark, mark}
-use Rattle.sap_grammar.specs.TermGrammar.{IsShort}
-use Rattle.sap_grammar.specs.FactGrammar.{fact_linear}
 use Rattle.sap_grammar.proofs.ReadingLaws.Limits.{le_of}
-use Rattle.sap_draft.specs.declared.limits.TheConstants.{FILE_LIMITS}
 use Rattle.sap_draft.specs.ProcessGrammar.{action_delete, action_event, action_insert, action_lock, action_unlock, one_bar, two_bars}
 use Rattle.sap_expect.specs.declared.wanted.Part.TheVariants.{Arguments, Arrow, Bars, Else, Message, NewName, Process, Sequence, Then}
 use Rattle.sap_expect.specs.FileTable.{Turn, otherwise, row, rows}
 use Rattle.sap_expect.proofs.FollowProcess.{seq_levels}
-use Rattle.sap_expect.proofs.Meant.{AreOther, AreRow, Meaning, Same, first, is_any, is_capital, is_changed, is_sign, is_zero, same}
+use Rattle.sap_expect.proofs.Meant.{AreOther, AreRow, Meaning, ends_there, first, is_any, is_capital, is_changed, is_sign, is_zero, same}
 use Rattle.sap_expect.proofs.MeantProcesses.{HasArguments, HasArrow, HasBars, HasElse, HasMessage, HasProcess, HasSequence, HasThen, IsNewName, act_sequence, arrow_plain, arrow_shows, bars_more, bars_none, else_none, else_some, group_sequence, if_sequence, in_action, lookup_sequence, message_end, message_second, new_action, new_fresh, new_message, nil_sequence, out_action, process_of, replicated_sequence, rule_action, then_none, then_some, use_sequence, with_arguments, without_arguments}
 use Rattle.sap_expect.proofs.FactRows.{linear_fact, of_facts, short_of, small_list}
 
@@ -41,10 +38,6 @@ not_first : (t : Turn) (c : Bool) → (if c then Some t else None) ≡ None → 
 not_first t true e = absurd (cc (e))
 not_first t false e = refl
 
--- where what is so of here is so of the end
-at_end : (X : ℕ → List Word → Type 0) {n : ℕ} {a : List Word} {k : ℕ} {b : List Word} → Same n a k b → X n a → X k b
-at_end X same x = x
-
 module _ (g : Sig) (m n : ℕ) where
   pub new_name_row : {w : Word} {a : List Word} {k : ℕ} {b : List Word} → AreRow (of_processes g) (rows NewName) m n w a k b → IsNewName (w ∷ a) b
   new_name_row (inl (is_sign, o, (i, c, first is_any, same))) = new_fresh
@@ -69,14 +62,14 @@ module _ (g : Sig) (m n : ℕ) where
   arguments_other (o, (i, c, is_changed, same)) = without_arguments
 
   pub then_row : {w : Word} {a : List Word} {k : ℕ} {b : List Word} → AreRow (of_processes g) (rows Then) m n w a k b → 2 ≤ m → HasThen g m (w ∷ a) k b
-  then_row {a = a} (inl (is_sign, o, (i, c, s, (j, d, is_changed, e)))) two = at_end (HasThen g m (mark (codes ";") ∷ a)) e (then_some (s (below m two)))
+  then_row {a = a} (inl (is_sign, o, (i, c, s, (j, d, is_changed, e)))) two = ends_there (HasThen g m (mark (codes ";") ∷ a)) e (then_some (s (below m two)))
   then_row (inr (_, h)) two = absurd h
 
   pub then_other : {w : Word} {a : List Word} {k : ℕ} {b : List Word} → AreOther (of_processes g) (otherwise Then) m n (w ∷ a) k b → 2 ≤ m → HasThen g m (w ∷ a) k b
   then_other (o, (i, c, is_changed, same)) two = then_none
 
   pub else_row : {w : Word} {a : List Word} {k : ℕ} {b : List Word} → AreRow (of_processes g) (rows Else) m n w a k b → 2 ≤ m → HasElse g m n (w ∷ a) k b
-  else_row {a = a} (inl (is_sign, o, (i, c, s, (j, d, is_changed, e)))) two = at_end (HasElse g m n (mark (codes "else") ∷ a)) e (else_some (s (below m two)))
+  else_row {a = a} (inl (is_sign, o, (i, c, s, (j, d, is_changed, e)))) two = ends_there (HasElse g m n (mark (codes "else") ∷ a)) e (else_some (s (below m two)))
   else_row (inr (_, h)) two = absurd h
 
   pub else_other : {w : Word} {a : List Word} {k : ℕ} {b : List Word} → row Else w ≡ None → AreOther (of_processes g) (otherwise Else) m n (w ∷ a) k b → 2 ≤ m → HasElse g m n (w ∷ a) k b
@@ -90,10 +83,10 @@ module _ (g : Sig) (m n : ℕ) where
   pub bars_row : {w : Word} {a : List Word} {k : ℕ} {b : List Word} → AreRow (of_processes g) (rows Bars) m n w a k b → 1 ≤ n → HasBars g m n (w ∷ a) k b
   bars_row {a = a} (inl (is_sign, o, (i, c, p, (j, d, is_changed, e)))) one =
       let on = le_of (n + 1) m o in
-      at_end (HasBars g m n (mark (codes "|") ∷ a)) e (bars_more on one_bar (p (below_bar n m on one)))
+      ends_there (HasBars g m n (mark (codes "|") ∷ a)) e (bars_more on one_bar (p (below_bar n m on one)))
   bars_row {a = a} (inr (_, inl (is_sign, o, (i, c, p, (j, d, is_changed, e))))) one =
       let on = le_of (n + 1) m o in
-      at_end (HasBars g m n (mark (codes "||") ∷ a)) e (bars_more on two_bars (p (below_bar n m on one)))
+      ends_there (HasBars g m n (mark (codes "||") ∷ a)) e (bars_more on two_bars (p (below_bar n m on one)))
   bars_row (inr (_, inr (_, h))) one = absurd h
 
   pub bars_other : {w : Word} {a : List Word} {k : ℕ} {b : List Word} → AreOther (of_processes g) (otherwise Bars) m n (w ∷ a) k b → 1 ≤ n → HasBars g m n (w ∷ a) k b
@@ -104,10 +97,10 @@ module _ (g : Sig) (m n : ℕ) where
   sequence_row (inr (_, inl (is_any, o, (i, c, s, same)))) one = use_sequence _ one s
   sequence_row {a = a} (inr (_, inr (_, inl (is_sign, o, (i, c, p, (j, d, first is_sign, (x, y, is_changed, e))))))) one =
       let two = le_of 2 m o in
-      at_end (HasSequence g m (mark (codes "(") ∷ a)) e (group_sequence two (p (below m two)))
+      ends_there (HasSequence g m (mark (codes "(") ∷ a)) e (group_sequence two (p (below m two)))
   sequence_row {a = a} (inr (_, inr (_, inr (_, inl (is_sign, o, (i, c, s, (j, d, is_changed, e))))))) one =
       let two = le_of 2 m o in
-      at_end (HasSequence g m (mark (codes "!") ∷ a)) e (replicated_sequence two (s (below m two)))
+      ends_there (HasSequence g m (mark (codes "!") ∷ a)) e (replicated_sequence two (s (below m two)))
   sequence_row (inr (_, inr (_, inr (_, inr (_, inl (is_sign, o, (i, c, x, (j, d, q, same)))))))) one =
       let two = le_of 2 m o in
       act_sequence two (new_action x) (q two)

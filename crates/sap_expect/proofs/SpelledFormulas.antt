@@ -1,5 +1,5 @@
 -- Formulas that follow the table are spelled by the grammar, with their levels.
-use Rattle.std.proofs.Common.{◌≡◌, ◌≤◌, ℕ, true, false, List, [], ◌∷◌, None}
+use Rattle.std.proofs.Common.{◌≡◌, ◌≤◌, ℕ, List, [], ◌∷◌, None}
 use Rattle.sap_terms.specs.Signature.{Sig}
 use Rattle.sap_formula.specs.Form.{Form}
 use Rattle.sap_grammar.specs.Words.{Word}

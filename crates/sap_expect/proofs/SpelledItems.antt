@@ -7,7 +7,7 @@ use Rattle.sap_expect.specs.declared.wanted.Part.TheVariants.{Application, Argum
 use Rattle.sap_expect.specs.FileTable.{FollowsTable, Open, Reads, Takes, file, otherwise, reads_end, reads_word, row, rows}
 use Rattle.sap_expect.specs.FileWords.{IsFileWords}
 use Rattle.sap_expect.specs.Letters.{AreLettered, IsLettered}
-use Rattle.sap_expect.proofs.Meant.{AreOther, AreRow, Parted, parted, reads_of}
+use Rattle.sap_expect.proofs.Meant.{AreOther, AreRow, Parted, parted}
 use Rattle.sap_expect.proofs.MeantItems.{file_of}
 use Rattle.sap_expect.proofs.ItemRows.{attribute_row, builtin_row, file_row, function_row, items_row, lemma_row, mode_row, more_attributes_row, more_builtins_other, more_builtins_row, more_functions_other, more_functions_row, more_parameters_row, of_items, parameters_row, privacy_other, privacy_row}
 use Rattle.sap_expect.proofs.SequenceRows.{arguments_other, arguments_row, arrow_row, bars_other, bars_row, else_other, else_row, message_row, new_name_row, process_other, sequence_row, then_other, then_row}

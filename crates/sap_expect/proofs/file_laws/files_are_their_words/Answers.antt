@@ -4,7 +4,7 @@ use Rattle.sap_read.specs.Item.{Item}
 use Rattle.sap_read.specs.ItemGrammar.{IsItem}
 use Rattle.std.proofs.Common.{List}
 use Rattle.sap_expect.proofs.FileParts.{file_words, not_of_refused, of_read, some_of, words_parted}
-use Rattle.sap_expect.proofs.FreeItems.{BeginsOne, item_free}
+use Rattle.sap_expect.proofs.FreeItems.{item_free}
 use Rattle.sap_expect.proofs.file_laws.files_are_their_words.Goals as goal
 
 pub returns : goal.returns

@@ -1,4 +1,4 @@
-use Rattle.std.proofs.Common.{List, [], ◌∷◌, ◌++◌, ◌∙◌, ap}
+use Rattle.std.proofs.Common.{[], ◌∷◌, ◌++◌, ◌∙◌, ap}
 use Rattle.sap_grammar.specs.Words.{word_of}
 use Rattle.sap_expect.specs.declared.wanted.Wanted as code
 use Rattle.sap_expect.proofs.Turns.{popped, popped_level}
