@@ -1,104 +1,50 @@
 -- Rows of the table for formulas, backwards.
-use Rattle.std.proofs.Common.{◌≡◌, ◌||◌, ℕ, Bool, true, false, inl, inr, List, [], ◌∷◌, Some, None, refl}
-use Rattle.std.specs.Prelude.{codes, if◌then◌else◌, not}
+use Rattle.std.proofs.Common.{◌≡◌, ◌≤◌, ◌+◌, ◌-◌, ◌||◌, ℕ, Bool, true, false, inl, inr, List, [], ◌∷◌, Some, None, refl, arith}
+use Rattle.std.specs.Prelude.{codes, max, if◌then◌else◌, not}
 use Rattle.sap_terms.specs.Signature.{Sig}
+use Rattle.sap_grammar.proofs.ReadingLaws.Limits.{le_of}
 use Rattle.sap_grammar.specs.Words.{Word, is_lower, is_upper, mark, name, number, quoted, starts}
 use Rattle.sap_grammar.specs.Reading.{as_name, is_name}
 use Rattle.sap_grammar.specs.TermGrammar.{term_fresh, term_pub, term_quoted}
-use Rattle.sap_formula_grammar.specs.FormulaGrammar.{atom_equal, binds_fresh, binds_message, binds_pub, binds_time, is_truth, time_plain, time_signed, un_atom}
-use Rattle.sap_expect.specs.declared.wanted.Part.TheVariants.{Atom, Binders, Formula, InnerFormula, InnerJoined, InnerSecond, InnerSecondJoined, Joined, LowerAtom, MoreBinders, Second, SecondJoined, Time, Times, Truth, UpperAtom}
-use Rattle.sap_expect.specs.FileTable.{Row, is_wanted, otherwise, part, row, row_among, rows, sign, word}
+use Rattle.sap_formula_grammar.specs.FormulaGrammar.{IsAnd, IsIff, IsImp, IsOr, IsUn, atom_earlier, atom_same, binds_fresh, binds_message, binds_pub, binds_time, is_truth, time_plain, time_signed}
+use Rattle.sap_draft.specs.declared.limits.TheConstants.{FILE_LIMITS}
+use Rattle.sap_expect.specs.declared.wanted.Part.TheVariants.{Atom, Binders, Conjunction, Disjunction, Ended, Equivalence, Formula, Implication, LowerAtom, MoreBinders, MoreConjunction, MoreDisjunction, MoreEquivalence, MoreImplication, Time, Times, Truth, UpperAtom}
+use Rattle.sap_expect.specs.FileTable.{Row, is_wanted, otherwise, row, row_among, rows}
 use Rattle.sap_expect.specs.Letters.{IsLettered}
-use Rattle.sap_expect.proofs.Meant.{AreOther, AreRow, AreThese, Meaning, first, is_any, is_capital, is_named, is_quoted, is_sign, same}
-use Rattle.sap_expect.proofs.MeantTerms.{tuple_term}
-use Rattle.sap_expect.proofs.ProcessRows.{of_processes}
-use Rattle.sap_expect.proofs.MeantFormulas.{AreJoined, AreMoreBinders, IsBehind, IsBehindLower, IsBehindTime, IsBehindTruth, IsBehindUpper, SomeAtom, SomeBinders, SomeTime, behind_and, behind_end, behind_iff, behind_imp, behind_or, binders_end, binders_next, binders_of, false_atom, joined_every, joined_exists, joined_group, joined_not, joined_of, lower_atom, lower_earlier, lower_equal, lower_symbol, no_truth, time_atom, times_earlier, times_same, true_atom, truth_alone, truth_fact, upper_atom, upper_earlier, upper_equal, upper_fact}
+use Rattle.sap_expect.proofs.Meant.{AreOther, AreRow, Meaning, Same, first, is_any, is_capital, is_changed, is_named, is_quoted, is_sign, same}
+use Rattle.sap_expect.proofs.MeantTerms.{IsBetween, name_term, symbol_term, tuple_term}
+use Rattle.sap_expect.proofs.FactRows.{of_facts, small_args}
+use Rattle.sap_expect.proofs.MeantFormulas.{AreMoreBinders, GoesOn, IsBehindLower, IsBehindTime, IsBehindTruth, IsBehindUpper, IsEnded, NoAnd, NoIff, NoImp, NoOr, Some as SomeForm, SomeAtom, SomeBinders, SomeTime, Whole, action_atom, and_alone, and_next, atom_of, binders_end, binders_next, binders_of, ended, equal_atom, every_of, exists_of, false_of, group_of, iff_alone, iff_next, imp_alone, imp_next, no_truth, not_of, one_and, one_or, or_alone, or_next, true_of, truth_alone, truth_fact, whole_of}
 
 -- a truth value's name stands first
 abbrev pub first_truth : List Word → Bool
 first_truth [] = false
 first_truth (w ∷ ws) = is_truth w
 
--- parts of formulas that don't stand in one kind of quotes or parentheses alone
+-- atoms are of no levels of formulas: here m are those of their terms
 abbrev pub of_atoms : Sig → Meaning
-of_atoms g Truth a b = IsBehindTruth g a b
-of_atoms g Atom a b = first_truth a ≡ false → SomeAtom g a b
-of_atoms g UpperAtom a b = IsBehindUpper g a b
-of_atoms g LowerAtom a b = IsBehindLower g a b
-of_atoms g Times a b = IsBehindTime a b
-of_atoms g Time a b = SomeTime a b
-of_atoms g Binders a b = SomeBinders a b
-of_atoms g MoreBinders a b = AreMoreBinders a b
-of_atoms g p a b = of_processes g p a b
+of_atoms g Truth m n a k b = IsBehindTruth g a k b
+of_atoms g Atom m n a k b = 1 ≤ m → m ≤ FILE_LIMITS.term_levels → first_truth a ≡ false → SomeAtom g a b
+of_atoms g UpperAtom m n a k b = 1 ≤ m → m ≤ FILE_LIMITS.term_levels → IsBehindUpper g a b
+of_atoms g LowerAtom m n a k b = 1 ≤ m → m ≤ FILE_LIMITS.term_levels → IsBehindLower g a b
+of_atoms g Times m n a k b = IsBehindTime g a b
+of_atoms g Time m n a k b = SomeTime a b
+of_atoms g Binders m n a k b = SomeBinders a b
+of_atoms g MoreBinders m n a k b = AreMoreBinders a b
+of_atoms g p m n a k b = of_facts g p m n a k b
 
 abbrev pub of_formulas : Sig → Meaning
-of_formulas g Formula a b = AreJoined g (codes "\"") true a b
-of_formulas g Joined a b = IsBehind g (codes "\"") true a b
-of_formulas g Second a b = AreJoined g (codes "\"") false a b
-of_formulas g SecondJoined a b = IsBehind g (codes "\"") false a b
-of_formulas g InnerFormula a b = AreJoined g (codes ")") true a b
-of_formulas g InnerJoined a b = IsBehind g (codes ")") true a b
-of_formulas g InnerSecond a b = AreJoined g (codes ")") false a b
-of_formulas g InnerSecondJoined a b = IsBehind g (codes ")") false a b
-of_formulas g p a b = of_atoms g p a b
-
--- The four kinds of formulas have one list of rows: here `Formula` and `Joined` are those of any kind, with z behind it, `Second` is
--- the body of a quantifier, and `InnerSecond` what is behind `<=>`.
-abbrev pub of_kind : Sig → List ℕ → Bool → Meaning
-of_kind g z o Formula a b = AreJoined g z o a b
-of_kind g z o Joined a b = IsBehind g z o a b
-of_kind g z o Second a b = AreJoined g z true a b
-of_kind g z o InnerSecond a b = AreJoined g z false a b
-of_kind g z o InnerFormula a b = AreJoined g (codes ")") true a b
-of_kind g z o p a b = of_atoms g p a b
-
-abbrev pub kind_rows : List Row
-kind_rows =
-    (word (codes "T"), part Truth ∷ part Joined ∷ [])
-    ∷ (word (codes "F"), part Truth ∷ part Joined ∷ [])
-    ∷ (sign (codes "not"), part Formula ∷ [])
-    ∷ (sign (codes "All"), part Binders ∷ part Second ∷ [])
-    ∷ (sign (codes "Ex"), part Binders ∷ part Second ∷ [])
-    ∷ (sign (codes "("), part InnerFormula ∷ part Joined ∷ []) ∷ []
-
-abbrev pub second_rows : List ℕ → List Row
-second_rows z =
-    (sign z, [])
-    ∷ (sign (codes "&"), part Formula ∷ [])
-    ∷ (sign (codes "|"), part Formula ∷ [])
-    ∷ (sign (codes "==>"), part Formula ∷ []) ∷ []
-
-abbrev pub first_rows : List ℕ → List Row
-first_rows z =
-    (sign z, [])
-    ∷ (sign (codes "&"), part Formula ∷ [])
-    ∷ (sign (codes "|"), part Formula ∷ [])
-    ∷ (sign (codes "==>"), part Formula ∷ [])
-    ∷ (sign (codes "<=>"), part InnerSecond ∷ []) ∷ []
-
-pub kind_row : (g : Sig) (z : List ℕ) (o : Bool) {w : Word} {a b : List Word} → AreRow (of_kind g z o) kind_rows w a b → AreJoined g z o (w ∷ a) b
-kind_row g z o (inl (is_named, (c, h, (d, q, same)))) = joined_of (un_atom (true_atom h).1) q
-kind_row g z o (inr (_, inl (is_named, (c, h, (d, q, same))))) = joined_of (un_atom (false_atom h).1) q
-kind_row g z o (inr (_, inr (_, inl (is_sign, (c, h, same))))) = joined_not h
-kind_row g z o (inr (_, inr (_, inr (_, inl (is_sign, (c, (vs, s), (d, h, same))))))) = joined_every s h
-kind_row g z o (inr (_, inr (_, inr (_, inr (_, inl (is_sign, (c, (vs, s), (d, h, same)))))))) = joined_exists s h
-kind_row g z o (inr (_, inr (_, inr (_, inr (_, inr (_, inl (is_sign, (c, h, (d, q, same))))))))) = joined_group h q
-kind_row g z o (inr (_, inr (_, inr (_, inr (_, inr (_, inr (_, h))))))) = absurd h
-
-pub second_row : (g : Sig) (z : List ℕ) {w : Word} {a b : List Word} → AreRow (of_kind g z false) (second_rows z) w a b → IsBehind g z false (w ∷ a) b
-second_row g z (inl (is_sign, same)) = behind_end
-second_row g z (inr (_, inl (is_sign, (c, h, same)))) = behind_and h
-second_row g z (inr (_, inr (_, inl (is_sign, (c, h, same))))) = behind_or h
-second_row g z (inr (_, inr (_, inr (_, inl (is_sign, (c, h, same)))))) = behind_imp h
-second_row g z (inr (_, inr (_, inr (_, inr (_, h))))) = absurd h
-
-pub first_row : (g : Sig) (z : List ℕ) {w : Word} {a b : List Word} → AreRow (of_kind g z true) (first_rows z) w a b → IsBehind g z true (w ∷ a) b
-first_row g z (inl (is_sign, same)) = behind_end
-first_row g z (inr (_, inl (is_sign, (c, h, same)))) = behind_and h
-first_row g z (inr (_, inr (_, inl (is_sign, (c, h, same))))) = behind_or h
-first_row g z (inr (_, inr (_, inr (_, inl (is_sign, (c, h, same)))))) = behind_imp h
-first_row g z (inr (_, inr (_, inr (_, inr (_, inl (is_sign, (c, h, same))))))) = behind_iff h
-first_row g z (inr (_, inr (_, inr (_, inr (_, inr (_, h)))))) = absurd h
+of_formulas g Formula m n a k b = 1 ≤ m → SomeForm (IsUn g) a k b × IsBetween m k
+of_formulas g Conjunction m n a k b = 1 ≤ m → Whole (IsAnd g) NoAnd m a k b
+of_formulas g MoreConjunction m n a k b = IsBetween m n → GoesOn (IsAnd g) (IsAnd g) NoAnd m n a k b
+of_formulas g Disjunction m n a k b = 1 ≤ m → Whole (IsOr g) NoOr m a k b
+of_formulas g MoreDisjunction m n a k b = IsBetween m n → NoAnd a → GoesOn (IsOr g) (IsOr g) NoOr m n a k b
+of_formulas g Implication m n a k b = 1 ≤ m → Whole (IsImp g) NoImp m a k b
+of_formulas g MoreImplication m n a k b = IsBetween m n → NoOr a → GoesOn (IsOr g) (IsImp g) NoImp m n a k b
+of_formulas g Equivalence m n a k b = 1 ≤ m → Whole (IsIff g) NoIff m a k b
+of_formulas g MoreEquivalence m n a k b = IsBetween m n → NoImp a → GoesOn (IsImp g) (IsIff g) NoIff m n a k b
+of_formulas g Ended m n a k b = NoImp a → IsEnded n a k b
+of_formulas g p m n a k b = of_atoms g p m n a k b
 
 -- none of the rows begins with the word
 abbrev pub NoneBegin : List Row → Word → Type 0
@@ -109,7 +55,7 @@ pub none_begin : (rs : List Row) (w : Word) → row_among rs w ≡ None → None
 none_begin [] w e = tt
 none_begin (r ∷ rs) w e = by (is_wanted r.0 w) refl e (λ f. none_begin rs w f)
   where
-    by : (t : Bool) → is_wanted r.0 w ≡ t → (if t then Some r.1 else row_among rs w) ≡ None → (row_among rs w ≡ None → NoneBegin rs w) → NoneBegin (r ∷ rs) w
+    by : (t : Bool) → is_wanted r.0 w ≡ t → (if t then Some (r.1, r.2) else row_among rs w) ≡ None → (row_among rs w ≡ None → NoneBegin rs w) → NoneBegin (r ∷ rs) w
     by true q f k = absurd (cc (f))
     by false q f k = (q, k f)
 
@@ -123,63 +69,176 @@ is_no_truth (name x) e f = no_or _ _ e f
 is_no_truth (number x) e f = refl
 is_no_truth (quoted x) e f = refl
 
-pub kind_other : (g : Sig) (z : List ℕ) (o : Bool) {w : Word} {a b : List Word} → is_truth w ≡ false → AreThese (of_kind g z o) (part Atom ∷ part Joined ∷ []) (w ∷ a) b → AreJoined g z o (w ∷ a) b
-kind_other g z o n (c, m, (d, q, same)) = joined_of (un_atom (m n).1) q
-
-pub truth_row : {g : Sig} {w : Word} {a b : List Word} → AreRow (of_formulas g) (rows Truth) w a b → IsBehindTruth g (w ∷ a) b
-truth_row (inl (is_sign, (c, (ts, s), (d, first is_sign, (e, (i, t), same))))) = truth_fact s t
-truth_row (inr (_, h)) = absurd h
-
-pub truth_other : {g : Sig} {w : Word} {a b : List Word} → row Truth w ≡ None → AreOther (of_formulas g) (otherwise Truth) (w ∷ a) b → IsBehindTruth g (w ∷ a) b
-truth_other {w = w} e same = truth_alone (none_begin (rows Truth) w e).0
-
 lower_of : (l u : Bool) → (l || u) ≡ true → u ≡ false → l ≡ true
 lower_of true u e f = refl
 lower_of false u e f = absurd (cc (e, f))
 
-pub atom_row : {g : Sig} {w : Word} {a b : List Word} → IsLettered w → AreRow (of_formulas g) (rows Atom) w a b → is_truth w ≡ false → SomeAtom g (w ∷ a) b
-atom_row l (inl (is_capital up, (c, m, same))) n = upper_atom _ up n m
-atom_row l (inr (f, inl (is_any {x = x}, (c, m, same)))) n = lower_atom x (lower_of (is_lower x) (is_upper x) l f) n m
-atom_row l (inr (_, inr (_, inl (is_sign, (c, first is_any, (d, m, same)))))) n = time_atom _ m
-atom_row l (inr (_, inr (_, inr (_, inl (is_quoted, (c, first is_sign, (d, (t, s), same))))))) n = (_, atom_equal refl term_quoted s)
-atom_row l (inr (_, inr (_, inr (_, inr (_, inl (is_sign, (c, first is_any, (d, first is_sign, (e, (t, s), same))))))))) n = (_, atom_equal refl term_fresh s)
-atom_row l (inr (_, inr (_, inr (_, inr (_, inr (_, inl (is_sign, (c, first is_any, (d, first is_sign, (e, (t, s), same)))))))))) n = (_, atom_equal refl term_pub s)
-atom_row {a = a} l (inr (_, inr (_, inr (_, inr (_, inr (_, inr (_, inl (is_sign, (c, (t, s), (d, first is_sign, (e, (u, q), (f, more, (h, first is_sign, (i, (v, r), same)))))))))))))) n =
-    (_, atom_equal (no_truth (not (starts (codes "(") a)) false refl) (tuple_term s q more).1 r)
-atom_row l (inr (_, inr (_, inr (_, inr (_, inr (_, inr (_, inr (_, h)))))))) n = absurd h
+-- ends there
+to_end : {g : Sig} (m : ℕ) {x : List Word} {n k : ℕ} {a b : List Word} → Same n a k b → SomeForm (IsUn g) x n a → IsBetween m n → SomeForm (IsUn g) x k b × IsBetween m k
+to_end m same s i = (s, i)
 
-pub upper_row : {g : Sig} {w : Word} {a b : List Word} → AreRow (of_formulas g) (rows UpperAtom) w a b → IsBehindUpper g (w ∷ a) b
-upper_row (inl (is_sign, (c, (ts, s), (d, first is_sign, (e, (i, t), same))))) = upper_fact s t
-upper_row (inr (_, inl (is_sign, (c, (t, s), same)))) = upper_equal s
-upper_row (inr (_, inr (_, inl (is_sign, (c, (i, t), same))))) = upper_earlier t
-upper_row (inr (_, inr (_, inr (_, h)))) = absurd h
+imp_end : {g : Sig} {m i n k : ℕ} {x a b : List Word} → Same n a k b → GoesOn (IsOr g) (IsImp g) NoImp m i x n a → GoesOn (IsOr g) (IsImp g) NoImp m i x k b
+imp_end same h = h
 
-pub lower_row : {g : Sig} {w : Word} {a b : List Word} → AreRow (of_formulas g) (rows LowerAtom) w a b → IsBehindLower g (w ∷ a) b
-lower_row (inl (is_sign, (c, (ts, s), (d, first is_sign, (e, (t, q), same))))) = lower_symbol s q
-lower_row (inr (_, inl (is_sign, (c, (t, s), same)))) = lower_equal s
-lower_row (inr (_, inr (_, inl (is_sign, (c, (i, t), same))))) = lower_earlier t
-lower_row (inr (_, inr (_, inr (_, h)))) = absurd h
+pub formula_row : {g : Sig} {m n : ℕ} {w : Word} {a : List Word} {k : ℕ} {b : List Word} → AreRow (of_formulas g) (rows Formula) m n w a k b → 1 ≤ m → SomeForm (IsUn g) (w ∷ a) k b × IsBetween m k
+formula_row (inl (is_named, _, (_, _, h, same))) le = true_of le h
+formula_row (inr (_, inl (is_named, _, (_, _, h, same)))) le = false_of le h
+formula_row {m = m} (inr (_, inr (_, inl (is_sign, room, (_, _, h, (_, _, is_changed, e)))))) le =
+    let two = le_of 2 m room in
+    let s = h (omega (arith, two)) in
+    let few = s.1.1 in
+    to_end m e (not_of s.0) (omega arith, omega (arith, few, two))
+formula_row {m = m} (inr (_, inr (_, inr (_, inl (is_sign, room, (_, _, v, (_, _, h, (_, _, is_changed, e)))))))) le =
+    let two = le_of 2 m room in
+    let s = h (omega (arith, two)) in
+    let few = s.1.1 in
+    to_end m e (every_of v.1 s) (omega arith, omega (arith, few, two))
+formula_row {m = m} (inr (_, inr (_, inr (_, inr (_, inl (is_sign, room, (_, _, v, (_, _, h, (_, _, is_changed, e))))))))) le =
+    let two = le_of 2 m room in
+    let s = h (omega (arith, two)) in
+    let few = s.1.1 in
+    to_end m e (exists_of v.1 s) (omega arith, omega (arith, few, two))
+formula_row {m = m} (inr (_, inr (_, inr (_, inr (_, inr (_, inl (is_sign, room, (_, _, h, (_, _, first is_sign, (_, _, is_changed, e)))))))))) le =
+    let two = le_of 2 m room in
+    let s = h (omega (arith, two)) in
+    let few = s.1.1 in
+    to_end m e (group_of s.0) (omega arith, omega (arith, few, two))
+formula_row (inr (_, inr (_, inr (_, inr (_, inr (_, inr (_, h))))))) le = absurd h
 
-pub times_row : (g : Sig) {w : Word} {a b : List Word} → AreRow (of_formulas g) (rows Times) w a b → IsBehindTime (w ∷ a) b
-times_row g (inl (is_sign, (c, first is_sign, (d, first is_any, same)))) = times_same
-times_row g (inr (_, inl (is_sign, (c, (i, t), same)))) = times_earlier t
-times_row g (inr (_, inr (_, h))) = absurd h
+pub formula_other : {g : Sig} {m n : ℕ} {w : Word} {a : List Word} {k : ℕ} {b : List Word} → row Formula w ≡ None → AreOther (of_formulas g) (otherwise Formula) m n (w ∷ a) k b → 1 ≤ m → SomeForm (IsUn g) (w ∷ a) k b × IsBetween m k
+formula_other {w = w} e (_, (_, _, h, (_, _, is_changed, same))) le =
+    let q = none_begin (rows Formula) w e in
+    (atom_of (h (omega arith) (omega arith) (is_no_truth w q.0 q.1.0)), (omega arith, le))
 
-pub time_row : (g : Sig) {w : Word} {a b : List Word} → AreRow (of_formulas g) (rows Time) w a b → SomeTime (w ∷ a) b
-time_row g (inl (is_any, same)) = (_, time_plain)
-time_row g (inr (_, inl (is_sign, (c, first is_any, same)))) = (_, time_signed)
-time_row g (inr (_, inr (_, h))) = absurd h
+pub conjunction_other : {g : Sig} (m n : ℕ) {w : Word} {a : List Word} {k : ℕ} {b : List Word} → AreOther (of_formulas g) (otherwise Conjunction) m n (w ∷ a) k b → 1 ≤ m → Whole (IsAnd g) NoAnd m (w ∷ a) k b
+conjunction_other m n (_, (_, _, s, (_, _, h, same))) le =
+    let f = s le in
+    whole_of NoAnd (one_and f.0) (h f.1)
 
-pub binders_row : (g : Sig) {w : Word} {a b : List Word} → AreRow (of_formulas g) (rows Binders) w a b → SomeBinders (w ∷ a) b
-binders_row g (inl (is_any, (c, more, same))) = binders_of binds_message more
-binders_row g (inr (_, inl (is_sign, (c, first is_any, (d, more, same))))) = binders_of binds_fresh more
-binders_row g (inr (_, inr (_, inl (is_sign, (c, first is_any, (d, more, same)))))) = binders_of binds_pub more
-binders_row g (inr (_, inr (_, inr (_, inl (is_sign, (c, first is_any, (d, more, same))))))) = binders_of binds_time more
-binders_row g (inr (_, inr (_, inr (_, inr (_, h))))) = absurd h
+pub more_conjunction_row : {g : Sig} {m n : ℕ} {w : Word} {a : List Word} {k : ℕ} {b : List Word} → AreRow (of_formulas g) (rows MoreConjunction) m n w a k b → IsBetween m n → GoesOn (IsAnd g) (IsAnd g) NoAnd m n (w ∷ a) k b
+more_conjunction_row {m = m} {n = n} (inl (is_sign, goes, (_, _, s, (_, _, is_changed, (_, _, h, same))))) i =
+    let lt = le_of (n + 1) m goes in
+    let f = s (omega (arith, i.0, lt)) in
+    let few = f.1.1 in
+    and_next f.0 (h (omega arith, omega (arith, few, lt)))
+more_conjunction_row (inr (_, h)) i = absurd h
 
-pub more_binders_row : (g : Sig) {w : Word} {a b : List Word} → AreRow (of_formulas g) (rows MoreBinders) w a b → AreMoreBinders (w ∷ a) b
-more_binders_row g (inl (is_sign, same)) = binders_end
-more_binders_row g (inr (_, h)) = absurd h
+pub more_conjunction_other : {g : Sig} (m n : ℕ) {w : Word} {a : List Word} {k : ℕ} {b : List Word} → row MoreConjunction w ≡ None → AreOther (of_formulas g) (otherwise MoreConjunction) m n (w ∷ a) k b → IsBetween m n → GoesOn (IsAnd g) (IsAnd g) NoAnd m n (w ∷ a) k b
+more_conjunction_other m n {w = w} e (_, same) i = and_alone i (none_begin (rows MoreConjunction) w e).0
 
-pub more_binders_other : (g : Sig) {w : Word} {a b : List Word} → AreOther (of_formulas g) (otherwise MoreBinders) (w ∷ a) b → AreMoreBinders (w ∷ a) b
-more_binders_other g (c, (vs, s), same) = binders_next s
+pub disjunction_other : {g : Sig} (m n : ℕ) {w : Word} {a : List Word} {k : ℕ} {b : List Word} → AreOther (of_formulas g) (otherwise Disjunction) m n (w ∷ a) k b → 1 ≤ m → Whole (IsOr g) NoOr m (w ∷ a) k b
+disjunction_other m n (_, (_, _, s, (_, _, h, same))) le =
+    let f = s le in
+    whole_of NoOr (one_or f.0) (h f.1 f.2)
+
+pub more_disjunction_row : {g : Sig} {m n : ℕ} {w : Word} {a : List Word} {k : ℕ} {b : List Word} → AreRow (of_formulas g) (rows MoreDisjunction) m n w a k b → IsBetween m n → NoAnd (w ∷ a) → GoesOn (IsOr g) (IsOr g) NoOr m n (w ∷ a) k b
+more_disjunction_row {m = m} {n = n} (inl (is_sign, goes, (_, _, s, (_, _, is_changed, (_, _, h, same))))) i free =
+    let lt = le_of (n + 1) m goes in
+    let f = s (omega (arith, i.0, lt)) in
+    let few = f.1.1 in
+    or_next f.0 (h (omega arith, omega (arith, few, lt)) f.2)
+more_disjunction_row (inr (_, h)) i free = absurd h
+
+pub more_disjunction_other : {g : Sig} (m n : ℕ) {w : Word} {a : List Word} {k : ℕ} {b : List Word} → row MoreDisjunction w ≡ None → AreOther (of_formulas g) (otherwise MoreDisjunction) m n (w ∷ a) k b → IsBetween m n → NoAnd (w ∷ a) → GoesOn (IsOr g) (IsOr g) NoOr m n (w ∷ a) k b
+more_disjunction_other m n {w = w} e (_, same) i free = or_alone i (free, (none_begin (rows MoreDisjunction) w e).0)
+
+pub implication_other : {g : Sig} (m n : ℕ) {w : Word} {a : List Word} {k : ℕ} {b : List Word} → AreOther (of_formulas g) (otherwise Implication) m n (w ∷ a) k b → 1 ≤ m → Whole (IsImp g) NoImp m (w ∷ a) k b
+implication_other m n (_, (_, _, s, (_, _, h, same))) le =
+    let f = s le in
+    whole_of NoImp f.0 (h f.1 f.2)
+
+pub more_implication_row : {g : Sig} {m n : ℕ} {w : Word} {a : List Word} {k : ℕ} {b : List Word} → AreRow (of_formulas g) (rows MoreImplication) m n w a k b → IsBetween m n → NoOr (w ∷ a) → GoesOn (IsOr g) (IsImp g) NoImp m n (w ∷ a) k b
+more_implication_row {m = m} {n = n} (inl (is_sign, goes, (_, _, s, (_, _, is_changed, e)))) i free =
+    let lt = le_of (n + 1) m goes in
+    imp_end e (imp_next (s (omega (arith, i.0, lt))) lt)
+more_implication_row (inr (_, h)) i free = absurd h
+
+pub more_implication_other : {g : Sig} (m n : ℕ) {w : Word} {a : List Word} {k : ℕ} {b : List Word} → row MoreImplication w ≡ None → AreOther (of_formulas g) (otherwise MoreImplication) m n (w ∷ a) k b → IsBetween m n → NoOr (w ∷ a) → GoesOn (IsOr g) (IsImp g) NoImp m n (w ∷ a) k b
+more_implication_other m n {w = w} e (_, same) i free = imp_alone i (free, (none_begin (rows MoreImplication) w e).0)
+
+pub equivalence_other : {g : Sig} (m n : ℕ) {w : Word} {a : List Word} {k : ℕ} {b : List Word} → AreOther (of_formulas g) (otherwise Equivalence) m n (w ∷ a) k b → 1 ≤ m → Whole (IsIff g) NoIff m (w ∷ a) k b
+equivalence_other m n (_, (_, _, s, (_, _, h, same))) le =
+    let f = s le in
+    whole_of NoIff f.0 (h f.1 f.2)
+
+-- behind `<=>`
+second_side : {g : Sig} {m n j : ℕ} {a b : List Word} {k : ℕ} {c : List Word} → Whole (IsImp g) NoImp (m - 1) a j b → n + 1 ≤ m → IsEnded (max n j + 1) b k c
+    → GoesOn (IsImp g) (IsIff g) NoIff m n (mark (codes "<=>") ∷ a) k c
+second_side f lt (ended free) = iff_next f free lt
+
+pub more_equivalence_row : {g : Sig} {m n : ℕ} {w : Word} {a : List Word} {k : ℕ} {b : List Word} → AreRow (of_formulas g) (rows MoreEquivalence) m n w a k b → IsBetween m n → NoImp (w ∷ a) → GoesOn (IsImp g) (IsIff g) NoIff m n (w ∷ a) k b
+more_equivalence_row {m = m} {n = n} (inl (is_sign, goes, (_, _, s, (_, _, is_changed, (_, _, h, same))))) i free =
+    let lt = le_of (n + 1) m goes in
+    let f = s (omega (arith, i.0, lt)) in
+    second_side f lt (h f.2)
+more_equivalence_row (inr (_, h)) i free = absurd h
+
+pub more_equivalence_other : {g : Sig} (m n : ℕ) {w : Word} {a : List Word} {k : ℕ} {b : List Word} → row MoreEquivalence w ≡ None → AreOther (of_formulas g) (otherwise MoreEquivalence) m n (w ∷ a) k b → IsBetween m n → NoImp (w ∷ a) → GoesOn (IsImp g) (IsIff g) NoIff m n (w ∷ a) k b
+more_equivalence_other m n {w = w} e (_, same) i free = iff_alone i (free, (none_begin (rows MoreEquivalence) w e).0)
+
+pub ended_row : (g : Sig) (m n : ℕ) {w : Word} {a : List Word} {k : ℕ} {b : List Word} → AreRow (of_formulas g) (rows Ended) m n w a k b → NoImp (w ∷ a) → IsEnded n (w ∷ a) k b
+ended_row g m n (inl (is_sign, never, same)) free = absurd (cc)
+ended_row g m n (inr (_, h)) free = absurd h
+
+pub ended_other : (g : Sig) (m n : ℕ) {w : Word} {a : List Word} {k : ℕ} {b : List Word} → row Ended w ≡ None → AreOther (of_formulas g) (otherwise Ended) m n (w ∷ a) k b → NoImp (w ∷ a) → IsEnded n (w ∷ a) k b
+ended_other g m n {w = w} e (_, same) free = ended (free, (none_begin (rows Ended) w e).0)
+
+pub truth_row : {g : Sig} (m n : ℕ) {w : Word} {a : List Word} {k : ℕ} {b : List Word} → AreRow (of_formulas g) (rows Truth) m n w a k b → IsBehindTruth g (w ∷ a) k b
+truth_row m n (inl (is_sign, _, (_, _, s, (_, _, first is_sign, (_, _, t, (_, _, is_changed, same)))))) = truth_fact s.are (small_args s (omega arith)) t.1
+truth_row m n (inr (_, h)) = absurd h
+
+pub truth_other : {g : Sig} (m n : ℕ) {w : Word} {a : List Word} {k : ℕ} {b : List Word} → row Truth w ≡ None → AreOther (of_formulas g) (otherwise Truth) m n (w ∷ a) k b → IsBehindTruth g (w ∷ a) k b
+truth_other m n {w = w} e (_, (_, _, is_changed, same)) = truth_alone (none_begin (rows Truth) w e).0
+
+pub atom_row : {g : Sig} {m n : ℕ} {w : Word} {a : List Word} {k : ℕ} {b : List Word} → IsLettered w → AreRow (of_formulas g) (rows Atom) m n w a k b → 1 ≤ m → m ≤ FILE_LIMITS.term_levels → is_truth w ≡ false → SomeAtom g (w ∷ a) b
+atom_row l (inl (is_capital {x = x} up, _, (_, _, h, same))) le few never = h le few x up never
+atom_row l (inr (f, inl (is_any {x = x}, _, (_, _, h, same)))) le few never = h le few x (lower_of (is_lower x) (is_upper x) l f) never
+atom_row l (inr (_, inr (_, inl (is_sign, _, (_, _, first is_any, (_, _, h, same)))))) le few never = h _
+atom_row l (inr (_, inr (_, inr (_, inl (is_quoted, _, (_, _, first is_sign, (_, _, s, same))))))) le few never =
+    equal_atom few few refl (record { tree = _; is = term_quoted; levels = refl; fits = (omega arith, le) }) (s le)
+atom_row l (inr (_, inr (_, inr (_, inr (_, inl (is_sign, _, (_, _, first is_any, (_, _, first is_sign, (_, _, s, same))))))))) le few never =
+    equal_atom few few refl (record { tree = _; is = term_fresh; levels = refl; fits = (omega arith, le) }) (s le)
+atom_row l (inr (_, inr (_, inr (_, inr (_, inr (_, inl (is_sign, _, (_, _, first is_any, (_, _, first is_sign, (_, _, s, same)))))))))) le few never =
+    equal_atom few few refl (record { tree = _; is = term_pub; levels = refl; fits = (omega arith, le) }) (s le)
+atom_row {m = m} {a = a} l (inr (_, inr (_, inr (_, inr (_, inr (_, inr (_, inl (is_sign, room, (_, _, s, (_, _, h, (_, _, first is_sign, (_, _, q, same)))))))))))) le few never =
+    let two = le_of 2 m room in
+    let t = s (omega (arith, two)) in
+    let less = t.fits.1 in
+    equal_atom few few (no_truth (not (starts (codes "(") a)) false refl) (tuple_term t (h (t.fits.0, omega (arith, less, two)))) (q le)
+atom_row l (inr (_, inr (_, inr (_, inr (_, inr (_, inr (_, inr (_, h)))))))) le few never = absurd h
+
+pub upper_row : {g : Sig} {m : ℕ} (n : ℕ) {w : Word} {a : List Word} {k : ℕ} {b : List Word} → AreRow (of_formulas g) (rows UpperAtom) m n w a k b → 1 ≤ m → m ≤ FILE_LIMITS.term_levels → IsBehindUpper g (w ∷ a) b
+upper_row n (inl (is_sign, _, (_, _, s, (_, _, first is_sign, (_, _, t, same))))) le few = λ x up never. action_atom few up s t.1
+upper_row n (inr (_, inl (is_sign, _, (_, _, s, same)))) le few = λ x up never. equal_atom few few never (name_term x le) (s le)
+upper_row n (inr (_, inr (_, inl (is_sign, _, (_, _, t, same))))) le few = λ x up never. (_, atom_earlier never time_plain t.1, tt)
+upper_row n (inr (_, inr (_, inr (_, h)))) le few = absurd h
+
+pub lower_row : {g : Sig} {m : ℕ} (n : ℕ) {w : Word} {a : List Word} {k : ℕ} {b : List Word} → AreRow (of_formulas g) (rows LowerAtom) m n w a k b → 1 ≤ m → m ≤ FILE_LIMITS.term_levels → IsBehindLower g (w ∷ a) b
+lower_row n (inl (is_sign, _, (_, _, s, (_, _, first is_sign, (_, _, q, same))))) le few = λ x low never. equal_atom few few refl (symbol_term low le s) (q le)
+lower_row n (inr (_, inl (is_sign, _, (_, _, s, same)))) le few = λ x low never. equal_atom few few never (name_term x le) (s le)
+lower_row n (inr (_, inr (_, inl (is_sign, _, (_, _, t, same))))) le few = λ x low never. (_, atom_earlier never time_plain t.1, tt)
+lower_row n (inr (_, inr (_, inr (_, h)))) le few = absurd h
+
+pub times_row : {g : Sig} (m n : ℕ) {w : Word} {a : List Word} {k : ℕ} {b : List Word} → AreRow (of_formulas g) (rows Times) m n w a k b → IsBehindTime g (w ∷ a) b
+times_row m n (inl (is_sign, _, (_, _, first is_sign, (_, _, first is_any, same)))) = λ i. (_, atom_same, tt)
+times_row m n (inr (_, inl (is_sign, _, (_, _, t, same)))) = λ i. (_, atom_earlier refl time_signed t.1, tt)
+times_row m n (inr (_, inr (_, h))) = absurd h
+
+pub time_row : (g : Sig) (m n : ℕ) {w : Word} {a : List Word} {k : ℕ} {b : List Word} → AreRow (of_formulas g) (rows Time) m n w a k b → SomeTime (w ∷ a) b
+time_row g m n (inl (is_any, _, same)) = (_, time_plain)
+time_row g m n (inr (_, inl (is_sign, _, (_, _, first is_any, same)))) = (_, time_signed)
+time_row g m n (inr (_, inr (_, h))) = absurd h
+
+pub binders_row : (g : Sig) (m n : ℕ) {w : Word} {a : List Word} {k : ℕ} {b : List Word} → AreRow (of_formulas g) (rows Binders) m n w a k b → SomeBinders (w ∷ a) b
+binders_row g m n (inl (is_any, _, (_, _, h, same))) = binders_of binds_message h
+binders_row g m n (inr (_, inl (is_sign, _, (_, _, first is_any, (_, _, h, same))))) = binders_of binds_fresh h
+binders_row g m n (inr (_, inr (_, inl (is_sign, _, (_, _, first is_any, (_, _, h, same)))))) = binders_of binds_pub h
+binders_row g m n (inr (_, inr (_, inr (_, inl (is_sign, _, (_, _, first is_any, (_, _, h, same))))))) = binders_of binds_time h
+binders_row g m n (inr (_, inr (_, inr (_, inr (_, h))))) = absurd h
+
+pub more_binders_row : (g : Sig) (m n : ℕ) {w : Word} {a : List Word} {k : ℕ} {b : List Word} → AreRow (of_formulas g) (rows MoreBinders) m n w a k b → AreMoreBinders (w ∷ a) b
+more_binders_row g m n (inl (is_sign, _, same)) = binders_end
+more_binders_row g m n (inr (_, h)) = absurd h
+
+pub more_binders_other : (g : Sig) (m n : ℕ) {w : Word} {a : List Word} {k : ℕ} {b : List Word} → AreOther (of_formulas g) (otherwise MoreBinders) m n (w ∷ a) k b → AreMoreBinders (w ∷ a) b
+more_binders_other g m n (_, (_, _, s, same)) = binders_next s.1

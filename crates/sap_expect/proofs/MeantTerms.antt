@@ -1,57 +1,104 @@
--- What the words of terms are that the table takes.
-use Rattle.std.proofs.Common.{◌≡◌, ℕ, zero, suc, true, List, ◌∷◌, Option, Some, None, refl}
-use Rattle.std.specs.Prelude.{codes}
+-- What the words of terms are that the table takes: n are the levels of what ended before them, k those of what ended last then.
+use Rattle.std.proofs.Common.{◌≡◌, ◌≤◌, ◌+◌, ◌-◌, ℕ, zero, suc, true, List, ◌∷◌, Option, Some, None, refl, arith}
+use Rattle.std.specs.Prelude.{codes, max}
 use Rattle.sap_terms.specs.Signature.{Sig, arity_of}
-use Rattle.sap_terms.specs.Tree.{Tree}
+use Rattle.sap_terms.specs.Tree.{Tree, level_count, trees_levels, trees_of}
 use Rattle.sap_grammar.specs.Words.{Word, is_lower, mark, name}
-use Rattle.sap_grammar.specs.TermGrammar.{IsArgs, IsConstant, IsList, IsRest, IsTerm, list_last, list_more, rest_last, rest_more, term_constant, term_message, term_symbol, term_tuple}
+use Rattle.sap_grammar.specs.TermGrammar.{IsArgs, IsConstant, IsList, IsRest, IsTerm, args_some, list_more, pair, rest_more, term_constant, term_message, term_symbol, term_tuple}
 
--- what may be behind the name of a symbol: terms in parentheses, or nothing
-pub data HasTerms (g : Sig) : List Word → List Word → Type 0 where
-  no_terms : {a : List Word} → HasTerms g a a
-  with_terms : {ts : List Tree} {a b : List Word} → IsArgs g ts a b → HasTerms g (mark (codes "(") ∷ a) b
+-- what has k levels has one, and at most m
+abbrev pub IsBetween : ℕ → ℕ → Type 0
+IsBetween m k = (1 ≤ k) × (k ≤ m)
 
--- behind one of a list of terms
-pub data AreMoreTerms (g : Sig) : List Word → List Word → Type 0 where
-  terms_end : {a : List Word} → AreMoreTerms g (mark (codes ")") ∷ a) a
-  terms_more : {ts : List Tree} {a b : List Word} → IsList g ts a b → AreMoreTerms g (mark (codes ",") ∷ a) b
+-- a term of k levels, and of at most m
+pub record SomeTerm (g : Sig) (m : ℕ) (a : List Word) (k : ℕ) (b : List Word) : Type 0 where
+  pub tree : Tree
+  pub is : IsTerm g tree a b
+  pub levels : level_count tree ≡ k
+  pub fits : IsBetween m k
 
--- behind a part of a tuple that isn't its first
-pub data AreMoreParts (g : Sig) : List Word → List Word → Type 0 where
-  parts_end : {a : List Word} → AreMoreParts g (mark (codes ">") ∷ a) a
-  parts_more : {t : Tree} {a b : List Word} → IsRest g t a b → AreMoreParts g (mark (codes ",") ∷ a) b
+-- terms with their closing parenthesis
+pub record SomeArgs (g : Sig) (m : ℕ) (a : List Word) (k : ℕ) (b : List Word) : Type 0 where
+  pub trees : List Tree
+  pub are : IsArgs g trees a b
+  pub levels : trees_levels (trees_of trees) ≡ k
+  pub few : k ≤ m
 
-abbrev pub SomeTerm : Sig → List Word → List Word → Type 0
-SomeTerm g a b = (t : Tree) × IsTerm g t a b
+-- behind the name of a symbol
+abbrev pub IsBehindName : Sig → ℕ → List Word → ℕ → List Word → Type 0
+IsBehindName g m a k b = (x : List ℕ) → is_lower x ≡ true → SomeTerm g m (name x ∷ a) k b
 
-abbrev pub SomeArgs : Sig → List Word → List Word → Type 0
-SomeArgs g a b = (ts : List Tree) × IsArgs g ts a b
+-- behind one of a list of terms, those up to it of n levels
+pub record AreMoreTerms (g : Sig) (m n : ℕ) (a : List Word) (k : ℕ) (b : List Word) : Type 0 where
+  pub trees : List Tree
+  pub are : {t : Tree} {x : List Word} → IsTerm g t x a → IsList g (t ∷ trees) x b
+  pub levels : max n (trees_levels (trees_of trees)) ≡ k
+  pub fits : IsBetween m k
 
-abbrev pub SomeList : Sig → List Word → List Word → Type 0
-SomeList g a b = (ts : List Tree) × IsList g ts a b
+-- behind the first part of a tuple, of n levels
+pub record IsBehindFirst (g : Sig) (m n : ℕ) (a : List Word) (k : ℕ) (b : List Word) : Type 0 where
+  pub tree : Tree
+  pub is : {t : Tree} {x : List Word} → IsTerm g t x a → IsTerm g (pair t tree) (mark (codes "<") ∷ x) b
+  pub levels : max n (level_count tree) + 1 ≡ k
+  pub fits : IsBetween m k
 
-pub list_of : {g : Sig} {t : Tree} {a b c : List Word} → IsTerm g t a c → AreMoreTerms g c b → SomeList g a b
-list_of s terms_end = (_, list_last s)
-list_of s (terms_more q) = (_, list_more s q)
-
-rest_of : {g : Sig} {t : Tree} {a b c : List Word} → IsTerm g t a c → AreMoreParts g c b → (u : Tree) × IsRest g u a b
-rest_of s parts_end = (_, rest_last s)
-rest_of s (parts_more q) = (_, rest_more s q)
+-- behind another, of n levels: what it is with those behind it
+pub record AreMoreParts (g : Sig) (m n : ℕ) (a : List Word) (k : ℕ) (b : List Word) : Type 0 where
+  pub tree : Tree → Tree
+  pub are : {t : Tree} {x : List Word} → IsTerm g t x a → IsRest g (tree t) x b
+  pub levels : (t : Tree) → level_count t ≡ n → level_count (tree t) ≡ k
+  pub fits : IsBetween m k
 
 -- any name is a term
-pub name_term : (g : Sig) (x : List ℕ) (b : List Word) → SomeTerm g (name x ∷ b) b
-name_term g x b = by (arity_of g x) refl
+pub name_term : {g : Sig} (x : List ℕ) {m : ℕ} {b : List Word} → 1 ≤ m → SomeTerm g m (name x ∷ b) 1 b
+name_term {g = g} x {m = m} {b = b} le = by (arity_of g x) refl
   where
-    by : (o : Option ℕ) → arity_of g x ≡ o → SomeTerm g (name x ∷ b) b
-    by None e = (_, term_message (λ (c : IsConstant g x). absurd (cc (e, c))))
-    by (Some zero) e = (_, term_constant e)
-    by (Some (suc n)) e = (_, term_message (λ (c : IsConstant g x). absurd (cc (e, c))))
+    by : (o : Option ℕ) → arity_of g x ≡ o → SomeTerm g m (name x ∷ b) 1 b
+    by None e = record { tree = _; is = term_message (λ (c : IsConstant g x). absurd (cc (e, c))); levels = refl; fits = (omega arith, le) }
+    by (Some zero) e = record { tree = _; is = term_constant e; levels = refl; fits = (omega arith, le) }
+    by (Some (suc n)) e = record { tree = _; is = term_message (λ (c : IsConstant g x). absurd (cc (e, c))); levels = refl; fits = (omega arith, le) }
 
--- so is one that begins with a small letter, with terms behind it
-pub symbol_term : {g : Sig} {x : List ℕ} {a b : List Word} → is_lower x ≡ true → HasTerms g a b → SomeTerm g (name x ∷ a) b
-symbol_term {g = g} {x = x} {a = a} low no_terms = name_term g x a
-symbol_term low (with_terms q) = (_, term_symbol low q)
+-- so is a symbol with terms behind it, which have fewer levels
+pub symbol_term : {g : Sig} {x : List ℕ} {m k : ℕ} {a b : List Word} → is_lower x ≡ true → 1 ≤ m → SomeArgs g (m - 1) a k b → SomeTerm g m (name x ∷ mark (codes "(") ∷ a) (k + 1) b
+symbol_term {m = m} {k = k} low le s =
+    let few = s.few in
+    let levels = s.levels in
+    record { tree = _; is = term_symbol low s.are; levels = omega (arith, levels); fits = (omega arith, omega (arith, few, le)) }
 
-pub tuple_term : {g : Sig} {t u : Tree} {a b c d : List Word} → IsTerm g t a (mark (codes ",") ∷ b) → IsTerm g u b c → AreMoreParts g c d
-    → SomeTerm g (mark (codes "<") ∷ a) d
-tuple_term s q more = let r = rest_of q more in (_, term_tuple s r.1)
+pub tuple_term : {g : Sig} {m n k : ℕ} {a b c : List Word} → SomeTerm g m a n b → {m' : ℕ} → IsBehindFirst g m' n b k c → SomeTerm g m' (mark (codes "<") ∷ a) k c
+tuple_term s h =
+    let levels = h.levels in
+    let first = s.levels in
+    record { tree = _; is = h.is s.is; levels = omega (arith, levels, first); fits = h.fits }
+
+pub more_parts : {g : Sig} {m n j i : ℕ} {a b c : List Word} → SomeTerm g m a j b → AreMoreParts g m j b i c → {m' : ℕ} → n ≤ m → m + 1 ≤ m' → AreMoreParts g m' n (mark (codes ",") ∷ a) (max n i + 1) c
+more_parts {n = n} {i = i} s h {m' = m'} le lt =
+    let rest = h.levels s.tree s.levels in
+    let few = h.fits.1 in record {
+      tree = λ t. pair t (h.tree s.tree);
+      are = λ q. rest_more q (h.are s.is);
+      levels = λ t e. omega (arith, rest, e);
+      fits = (omega arith, omega (arith, few, le, lt));
+    }
+
+pub behind_first : {g : Sig} {m n j i : ℕ} {a b c : List Word} → SomeTerm g m a j b → AreMoreParts g m j b i c → {m' : ℕ} → n ≤ m → m + 1 ≤ m' → IsBehindFirst g m' n (mark (codes ",") ∷ a) (max n i + 1) c
+behind_first {n = n} {i = i} s h {m' = m'} le lt =
+    let rest = h.levels s.tree s.levels in
+    let few = h.fits.1 in record {
+      tree = h.tree s.tree;
+      is = λ q. term_tuple q (h.are s.is);
+      levels = omega (arith, rest);
+      fits = (omega arith, omega (arith, few, le, lt));
+    }
+
+pub more_terms : {g : Sig} {m n j k : ℕ} {a b c : List Word} → SomeTerm g m a j b → AreMoreTerms g m (max n j) b k c → AreMoreTerms g m n (mark (codes ",") ∷ a) k c
+more_terms s h =
+    let levels = h.levels in
+    let first = s.levels in
+    record { trees = s.tree ∷ h.trees; are = λ q. list_more q (h.are s.is); levels = omega (arith, levels, first); fits = h.fits }
+
+pub some_args : {g : Sig} {m j k : ℕ} {a b c : List Word} → SomeTerm g m a j b → AreMoreTerms g m j b k c → SomeArgs g m a k c
+some_args s h =
+    let levels = h.levels in
+    let first = s.levels in
+    record { trees = s.tree ∷ h.trees; are = args_some (h.are s.is); levels = omega (arith, levels, first); few = h.fits.1 }

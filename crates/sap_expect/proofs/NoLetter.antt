@@ -10,10 +10,9 @@ use Rattle.sap_grammar.specs.Words.{Word, is_lower, is_mark, is_upper, mark, nam
 use Rattle.sap_grammar.specs.TermGrammar.{IsTerm, term_constant, term_fresh, term_message, term_pub, term_quoted, term_symbol, term_tuple}
 use Rattle.sap_grammar.specs.FactGrammar.{IsFact, fact_linear, fact_persistent}
 use Rattle.sap_formula_grammar.specs.FormulaGrammar.{IsAnd, IsAtom, IsIff, IsImp, IsOr, IsShortFormula, IsTime, IsUn, Reach, and_more, and_one, atom_action, atom_earlier, atom_equal, atom_false, atom_same, atom_true, iff_more, iff_one, imp_more, imp_one, or_more, or_one, time_plain, time_signed, un_atom, un_every, un_exists, un_not, un_parentheses}
-use Rattle.sap_expect.specs.declared.wanted.Part.TheVariants.{Formula}
-use Rattle.sap_expect.specs.FileTable.{Reads, part, reads_end}
+use Rattle.sap_expect.specs.FileTable.{Reads, reads_end}
 use Rattle.sap_expect.specs.Letters.{IsLettered}
-use Rattle.sap_expect.specs.ItemExamples.{letterless}
+use Rattle.sap_expect.specs.LevelExamples.{letterless, quoted_formula}
 use Rattle.sap_expect.proofs.Reaching.{reach_goes}
 
 -- where a parenthesis opens behind the first word, a name there begins with a letter
@@ -96,8 +95,8 @@ iff_begins : {g : Sig} {e : Reach} {f : Form} {n : ℕ} {a b : List Word} → Is
 iff_begins (iff_one s) = imp_begins s
 iff_begins (iff_more s q) = imp_begins s
 
-pub letterless_follows : Reads (part Formula ∷ []) letterless
-letterless_follows = (reach_goes (part Formula ∷ []) letterless [] refl).on [] reads_end
+pub letterless_follows : Reads 0 quoted_formula letterless
+letterless_follows = (reach_goes (0, quoted_formula) letterless (1, []) refl).on [] reads_end
 
 pub letterless_none : (g : Sig) (m : Limits) (f : Form) (b : List Word) → IsShortFormula g m f letterless b → ⊥
 letterless_none g m f b s =

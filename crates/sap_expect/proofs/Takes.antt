@@ -1,70 +1,115 @@
--- A word is taken in one way, and what is wanted can always be completed.
-use Rattle.std.proofs.Common.{◌≡◌, false, List, [], ◌∷◌, ◌++◌, append_assoc, Some, None, refl, sym, ap, subst}
+-- A word is taken in one way.
+use Rattle.std.proofs.Common.{◌≡◌, ℕ, Bool, true, false, List, [], ◌∷◌, ◌++◌, append_assoc, Option, Some, None, refl, sym, ◌∙◌, ap, subst}
 use Rattle.sap_grammar.specs.Words.{Word}
+use Rattle.sap_expect.specs.declared.wanted.Change.{Change}
+use Rattle.sap_expect.specs.declared.wanted.Limit.{Limit}
 use Rattle.sap_expect.specs.declared.wanted.Part.{Part}
-use Rattle.sap_expect.specs.FileTable.{Reads, Takes, Wanted, is_wanted, otherwise, part, reads_word, row, takes_other, takes_row, takes_word}
+use Rattle.sap_expect.specs.declared.wanted.Test.{Test}
+use Rattle.sap_expect.specs.FileTable.{Open, Reads, Takes, Turn, Wanted, all_opened, changed, holds, is_wanted, level, otherwise, part, reads_word, row, takes_level, takes_other, takes_row, takes_word}
 
-pub one_next : (vs : List Wanted) (w : Word) (a b : List Wanted) → Takes vs w a → Takes vs w b → a ≡ b
-one_next vs w a b (takes_word e) (takes_word f) = refl
-one_next vs w a b (takes_word e) (takes_row f) = absurd (cc)
-one_next vs w a b (takes_word e) (takes_other f o t) = absurd (cc)
-one_next vs w a b (takes_row e) (takes_word f) = absurd (cc)
-one_next vs w a b (takes_row {vs = us} {rest = r} e) (takes_row {rest = s} f) =
-    let same : r ≡ s = cc in
-    ap (λ (x : List Wanted). x ++ us) same
-one_next vs w a b (takes_row e) (takes_other f o t) = absurd (cc)
-one_next vs w a b (takes_other e o t) (takes_word f) = absurd (cc)
-one_next vs w a b (takes_other e o t) (takes_row f) = absurd (cc)
-one_next vs w a b (takes_other {vs = us} {other = x} e o t) (takes_other {other = y} f p s) =
-    let same : y ≡ x = cc in
-    one_next (x ++ us) w a b t (subst (λ (z : List Wanted). Takes (z ++ us) w b) same s)
+-- a turn that is told in two ways
+first_of : Option Turn → Test → Test
+first_of None t = t
+first_of (Some x) t = x.0
+
+second_of : Option Turn → List Wanted → List Wanted
+second_of None vs = vs
+second_of (Some x) vs = x.1
+
+one_test : (o : Option Turn) {t u : Test} {vs us : List Wanted} → o ≡ Some (t, vs) → o ≡ Some (u, us) → u ≡ t
+unfolding first_of
+one_test o {t = t} {u = u} e f = ap (λ (x : Option Turn). first_of x t) (sym f ∙ e)
+
+one_list : (o : Option Turn) {t u : Test} {vs us : List Wanted} → o ≡ Some (t, vs) → o ≡ Some (u, us) → us ≡ vs
+unfolding second_of
+one_list o {vs = vs} e f = ap (λ (x : Option Turn). second_of x vs) (sym f ∙ e)
+
+pub one_next : (n : ℕ) (vs : List Open) (w : Word) (j k : ℕ) (a b : List Open) → Takes n vs w j a → Takes n vs w k b → (j ≡ k) × (a ≡ b)
+one_next n vs w j k a b (takes_word e) (takes_word f) = (refl, refl)
+one_next n vs w j k a b (takes_word e) (takes_row f h) = absurd (cc)
+one_next n vs w j k a b (takes_word e) (takes_other f o h t) = absurd (cc)
+one_next n vs w j k a b (takes_word e) (takes_level t) = absurd (cc)
+one_next n vs w j k a b (takes_row e h) (takes_word f) = absurd (cc)
+one_next n vs w j k a b (takes_row {m = m} {p = p} {vs = us} e h) (takes_row f g) =
+    (refl, ap (λ (x : List Wanted). all_opened m n x ++ us) (one_list (row p w) f e))
+one_next n vs w j k a b (takes_row e h) (takes_other f o g t) = absurd (cc)
+one_next n vs w j k a b (takes_other e o h t) (takes_word f) = absurd (cc)
+one_next n vs w j k a b (takes_other e o h t) (takes_row f g) = absurd (cc)
+one_next n vs w j k a b (takes_other {m = m} {p = p} {other = x} {vs = us} e o h t) (takes_other f q g s) =
+    one_next n (all_opened m n x ++ us) w j k a b t (subst (λ (z : List Wanted). Takes n (all_opened m n z ++ us) w k b) (one_list (otherwise p) o q) s)
+one_next n vs w j k a b (takes_level t) (takes_word f) = absurd (cc)
+one_next n vs w j k a b (takes_level {k = i} {c = c} {vs = us} t) (takes_level s) = one_next (changed c n i) us w j k a b t s
 
 -- nothing goes on where nothing is wanted
-no_takes_of : (vs : List Wanted) (w : Word) (next : List Wanted) → Takes vs w next → ◌≡◌ {A = List Wanted} vs [] → ⊥
-no_takes_of vs w next (takes_word e) same = absurd (cc)
-no_takes_of vs w next (takes_row e) same = absurd (cc)
-no_takes_of vs w next (takes_other e o t) same = absurd (cc)
+no_takes_of : (n : ℕ) (vs : List Open) (w : Word) (k : ℕ) (next : List Open) → Takes n vs w k next → ◌≡◌ {A = List Open} vs [] → ⊥
+no_takes_of n vs w k next (takes_word e) same = absurd (cc)
+no_takes_of n vs w k next (takes_row e h) same = absurd (cc)
+no_takes_of n vs w k next (takes_other e o h t) same = absurd (cc)
+no_takes_of n vs w k next (takes_level t) same = absurd (cc)
 
-pub no_takes : (w : Word) (next : List Wanted) → Takes [] w next → ⊥
-no_takes w next t = no_takes_of [] w next t refl
+pub no_takes : (n : ℕ) (w : Word) (k : ℕ) (next : List Open) → Takes n [] w k next → ⊥
+no_takes n w k next t = no_takes_of n [] w k next t refl
 
 -- another word than the one that is wanted
-pub plain_no : (v : Wanted) (vs : List Wanted) (w : Word) (next : List Wanted) → ((p : Part) → v ≡ part p → ⊥) → is_wanted v w ≡ false → Takes (v ∷ vs) w next → ⊥
-plain_no v vs w next never e (takes_word f) = absurd (cc)
-plain_no v vs w next never e (takes_row {p = p} f) = never p refl
-plain_no v vs w next never e (takes_other {p = p} f g t) = never p refl
+pub plain_no : (n : ℕ) (v : Wanted) (i : ℕ) (vs : List Open) (w : Word) (k : ℕ) (next : List Open) → ((p : Part) (l : Limit) → v ≡ part p l → ⊥)
+    → ((c : Change) → v ≡ level c → ⊥) → is_wanted v w ≡ false → Takes n ((v, i) ∷ vs) w k next → ⊥
+plain_no n v i vs w k next never nor e (takes_word f) = absurd (cc)
+plain_no n v i vs w k next never nor e (takes_row {p = p} {l = l} f h) = never p l refl
+plain_no n v i vs w k next never nor e (takes_other {p = p} {l = l} f g h t) = never p l refl
+plain_no n v i vs w k next never nor e (takes_level {c = c} t) = nor c refl
 
 -- a word that no row begins, where the part is nothing else
-pub part_no : (p : Part) (vs : List Wanted) (w : Word) (next : List Wanted) → row p w ≡ None → otherwise p ≡ None → Takes (part p ∷ vs) w next → ⊥
-part_no p vs w next e o (takes_word g) = absurd (cc)
-part_no p vs w next e o (takes_row g) = absurd (cc)
-part_no p vs w next e o (takes_other g h t) = absurd (cc)
+pub part_no : (n : ℕ) (p : Part) (l : Limit) (m : ℕ) (vs : List Open) (w : Word) (k : ℕ) (next : List Open) → row p w ≡ None → otherwise p ≡ None → Takes n ((part p l, m) ∷ vs) w k next → ⊥
+part_no n p l m vs w k next e o (takes_word g) = absurd (cc)
+part_no n p l m vs w k next e o (takes_row g h) = absurd (cc)
+part_no n p l m vs w k next e o (takes_other g h i t) = absurd (cc)
+
+both : (b : Bool) → b ≡ false → b ≡ true → ⊥
+both true e f = absurd (cc)
+both false e f = absurd (cc)
+
+-- one that a row begins where it may not
+pub row_not : (n : ℕ) (p : Part) (l : Limit) (m : ℕ) (vs : List Open) (w : Word) (t : Test) (rest : List Wanted) (k : ℕ) (next : List Open) → row p w ≡ Some (t, rest) → holds t m n ≡ false
+    → Takes n ((part p l, m) ∷ vs) w k next → ⊥
+row_not n p l m vs w t rest k next e never (takes_word g) = absurd (cc)
+row_not n p l m vs w t rest k next e never (takes_row g h) = both _ never (subst (λ (x : Test). holds x m n ≡ true) (one_test (row p w) e g) h)
+row_not n p l m vs w t rest k next e never (takes_other g h i s) = absurd (cc)
 
 -- where it is something else
-pub part_back : (p : Part) (vs : List Wanted) (w : Word) (next x : List Wanted) → row p w ≡ None → otherwise p ≡ Some x → Takes (part p ∷ vs) w next → Takes (x ++ vs) w next
-part_back p vs w next x e o (takes_word g) = absurd (cc)
-part_back p vs w next x e o (takes_row g) = absurd (cc)
-part_back p vs w next x e o (takes_other {other = y} g h t) =
-    let same : y ≡ x = cc in
-    subst (λ (z : List Wanted). Takes (z ++ vs) w next) same t
+pub part_back : (n : ℕ) (p : Part) (l : Limit) (m : ℕ) (vs : List Open) (w : Word) (k : ℕ) (next : List Open) (t : Test) (x : List Wanted) → row p w ≡ None → otherwise p ≡ Some (t, x)
+    → Takes n ((part p l, m) ∷ vs) w k next → (holds t m n ≡ true) × Takes n (all_opened m n x ++ vs) w k next
+part_back n p l m vs w k next t x e o (takes_word g) = absurd (cc)
+part_back n p l m vs w k next t x e o (takes_row g h) = absurd (cc)
+part_back n p l m vs w k next t x e o (takes_other g h i s) =
+    (subst (λ (z : Test). holds z m n ≡ true) (one_test (otherwise p) o h) i, subst (λ (z : List Wanted). Takes n (all_opened m n z ++ vs) w k next) (one_list (otherwise p) o h) s)
+
+pub other_not : (n : ℕ) (p : Part) (l : Limit) (m : ℕ) (vs : List Open) (w : Word) (t : Test) (other : List Wanted) (k : ℕ) (next : List Open) → row p w ≡ None → otherwise p ≡ Some (t, other)
+    → holds t m n ≡ false → Takes n ((part p l, m) ∷ vs) w k next → ⊥
+other_not n p l m vs w t other k next e o never s = both _ never (part_back n p l m vs w k next t other e o s).0
+
+pub level_back : (n : ℕ) (c : Change) (i : ℕ) (vs : List Open) (w : Word) (k : ℕ) (next : List Open) → Takes n ((level c, i) ∷ vs) w k next → Takes (changed c n i) vs w k next
+level_back n c i vs w k next (takes_word g) = absurd (cc)
+level_back n c i vs w k next (takes_level t) = t
 
 -- words that go from one to the other: what follows reads on
-pub record Goes (vs : List Wanted) (ws : List Word) (us : List Wanted) : Type 0 where
-  pub on : (rest : List Word) → Reads us rest → Reads vs (ws ++ rest)
-  pub back : (rest : List Word) → Reads vs (ws ++ rest) → Reads us rest
+pub record Goes (n : ℕ) (vs : List Open) (ws : List Word) (k : ℕ) (us : List Open) : Type 0 where
+  pub on : (rest : List Word) → Reads k us rest → Reads n vs (ws ++ rest)
+  pub back : (rest : List Word) → Reads n vs (ws ++ rest) → Reads k us rest
 
-pub goes_none : (vs : List Wanted) → Goes vs [] vs
-goes_none vs = record { on = λ rest r. r; back = λ rest r. r }
+pub goes_none : (n : ℕ) (vs : List Open) → Goes n vs [] n vs
+goes_none n vs = record { on = λ rest r. r; back = λ rest r. r }
 
 -- what reads a word takes it
-pub reads_next : (vs next : List Wanted) (w : Word) (ws : List Word) → Takes vs w next → Reads vs (w ∷ ws) → Reads next ws
-reads_next vs next w ws t (reads_word {next = n} s r) = subst (λ (z : List Wanted). Reads z ws) (one_next vs w n next s t) r
+pub reads_next : (n : ℕ) (vs : List Open) (k : ℕ) (next : List Open) (w : Word) (ws : List Word) → Takes n vs w k next → Reads n vs (w ∷ ws) → Reads k next ws
+reads_next n vs k next w ws t (reads_word {k = j} {next = us} s r) =
+    let one = one_next n vs w j k us next s t in
+    subst (λ (z : List Open). Reads k z ws) one.1 (subst (λ (z : ℕ). Reads z us ws) one.0 r)
 
-pub reads_none : (vs : List Wanted) (w : Word) (ws : List Word) → ((next : List Wanted) → Takes vs w next → ⊥) → Reads vs (w ∷ ws) → ⊥
-reads_none vs w ws f (reads_word {next = n} s r) = f n s
+pub reads_none : (n : ℕ) (vs : List Open) (w : Word) (ws : List Word) → ((k : ℕ) (next : List Open) → Takes n vs w k next → ⊥) → Reads n vs (w ∷ ws) → ⊥
+reads_none n vs w ws f (reads_word {k = k} {next = next} s r) = f k next s
 
-pub goes_more : (vs us next : List Wanted) (ws : List Word) (w : Word) → Goes vs ws us → Takes us w next → Goes vs (ws ++ w ∷ []) next
-goes_more vs us next ws w g t = record {
-  on = λ rest r. subst (λ (z : List Word). Reads vs z) (sym (append_assoc ws (w ∷ []) rest)) (g.on (w ∷ rest) (reads_word t r));
-  back = λ rest r. reads_next us next w rest t (g.back (w ∷ rest) (subst (λ (z : List Word). Reads vs z) (append_assoc ws (w ∷ []) rest) r));
+pub goes_more : (n : ℕ) (vs : List Open) (k : ℕ) (us : List Open) (j : ℕ) (next : List Open) (ws : List Word) (w : Word) → Goes n vs ws k us → Takes k us w j next → Goes n vs (ws ++ w ∷ []) j next
+goes_more n vs k us j next ws w g t = record {
+  on = λ rest r. subst (λ (z : List Word). Reads n vs z) (sym (append_assoc ws (w ∷ []) rest)) (g.on (w ∷ rest) (reads_word t r));
+  back = λ rest r. reads_next k us j next w rest t (g.back (w ∷ rest) (subst (λ (z : List Word). Reads n vs z) (append_assoc ws (w ∷ []) rest) r));
 }

@@ -178,10 +178,3 @@ with_arguments = headed
     ∷ mark (codes "process") ∷ mark (codes ":") ∷ name (codes "A") ∷ mark (codes "(")
     ∷ quoted (codes "a") ∷ mark (codes ",") ∷ name (codes "B") ∷ mark (codes ")")
     ∷ mark (codes "|") ∷ name (codes "A") ∷ mark (codes "end") ∷ [])
-
--- `_ ( ) = 'a' "`, a formula with its closing quotation mark, where a name that begins with no letter stands before parentheses: no
--- token has such a name
-abbrev pub letterless : List Word
-letterless =
-    name (95 ∷ []) ∷ mark (codes "(") ∷ mark (codes ")") ∷ mark (codes "=") ∷ quoted (codes "a")
-    ∷ mark (codes "\"") ∷ []

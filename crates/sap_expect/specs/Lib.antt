@@ -1,9 +1,7 @@
 pub mod FirstWrong
 pub mod FileTable
-pub mod AnyLevels
+pub mod FileWords
 pub mod Letters
-pub mod ItemsUpTo
-pub mod TermLevels
 pub mod LevelExamples
 pub mod ItemExamples
 pub mod code

@@ -1,314 +1,471 @@
 //! A table of the words of a file: for each part the words that it may begin with, and what has to stand behind each.
 
+use crate::wanted::Change::{Deepest, Joined, More, Nothing, One, Two};
+use crate::wanted::Limit::{Below, OfFormula, OfProcess, OfTerm, Same};
 use crate::wanted::Part::{
-    Application, Arguments, Arrow, Atom, Attribute, Bars, Binders, Builtin, Else, Fact, Facts,
-    Formula, Function, InnerBars, InnerFormula, InnerJoined, InnerSecond, InnerSecondJoined, Items,
-    Joined, Lemma, LowerAtom, Message, Mode, MoreAttributes, MoreBinders, MoreBuiltins, MoreFacts,
-    MoreFunctions, MoreParameters, MoreParts, MoreShown, MoreTerms, NewName, Parameters, Privacy,
-    Second, SecondJoined, Sequence, Shown, Term, Terms, Then, Time, Times, Truth, UpperAtom,
+    Application, Arguments, Arrow, Atom, Attribute, Bars, Binders, Builtin, Conjunction,
+    Disjunction, Else, Ended, Equivalence, Fact, Facts, Formula, Function, Implication, Items,
+    Lemma, LowerAtom, Message, Mode, MoreAttributes, MoreBinders, MoreBuiltins, MoreConjunction,
+    MoreDisjunction, MoreEquivalence, MoreFacts, MoreFunctions, MoreImplication, MoreParameters,
+    MoreParts, MoreShown, MoreTerms, NewName, Pair, Parameters, Privacy, Process, Sequence, Shown,
+    Term, Terms, Then, Time, Times, Truth, UpperAtom,
 };
-use crate::wanted::Wanted;
-use crate::wanted::Wanted::{A, Arity, Lower, Mark, Name, Named, Quoted, Upper, Zero};
+use crate::wanted::Test::{Always, GoesOn, HasLevel, HasRoom, Never};
+use crate::wanted::Wanted::{A, Arity, Level, Lower, Mark, Name, Named, Quoted, Upper, Zero};
+use crate::wanted::{Test, Wanted};
 
-/// What a part may begin with, and what has to stand behind it.
-pub(crate) type Row = (Wanted, &'static [Wanted]);
+/// What a part may begin with, where it may, and what has to stand behind it.
+pub(crate) type Row = (Wanted, Test, &'static [Wanted]);
 
-pub(crate) const FILE: &[Row] = &[(Mark("theory"), &[Name, Mark("begin"), A(Items)])];
+/// What a part is, where it may be that.
+pub(crate) type Turn = (Test, &'static [Wanted]);
+
+pub(crate) const FILE: &[Row] = &[(
+    Mark("theory"),
+    Always,
+    &[Name, Mark("begin"), A(Items, Same)],
+)];
 
 pub(crate) const ITEMS: &[Row] = &[
-    (Mark("builtins"), &[Mark(":"), A(Builtin), A(MoreBuiltins)]),
-    (Mark("functions"), &[Mark(":"), A(Function)]),
-    (Mark("let"), &[Name, A(Parameters), A(Sequence), A(Bars)]),
-    (Mark("process"), &[Mark(":"), A(Sequence), A(Bars)]),
+    (
+        Mark("builtins"),
+        Always,
+        &[Mark(":"), A(Builtin, Same), A(MoreBuiltins, Same)],
+    ),
+    (Mark("functions"), Always, &[Mark(":"), A(Function, Same)]),
+    (
+        Mark("let"),
+        Always,
+        &[
+            Name,
+            A(Parameters, Same),
+            A(Process, OfProcess),
+            A(Items, Same),
+        ],
+    ),
+    (
+        Mark("process"),
+        Always,
+        &[Mark(":"), A(Process, OfProcess), A(Items, Same)],
+    ),
     (
         Mark("restriction"),
-        &[Name, Mark(":"), Mark("\""), A(Formula), A(Items)],
+        Always,
+        &[
+            Name,
+            Mark(":"),
+            Mark("\""),
+            A(Equivalence, OfFormula),
+            Mark("\""),
+            A(Items, Same),
+        ],
     ),
-    (Mark("lemma"), &[Name, A(Lemma), A(Items)]),
-    (Mark("end"), &[]),
+    (
+        Mark("lemma"),
+        Always,
+        &[Name, A(Lemma, Same), A(Items, Same)],
+    ),
+    (Mark("end"), Always, &[]),
 ];
 
 pub(crate) const BUILTIN: &[Row] = &[
-    (Named("hashing"), &[]),
-    (Named("symmetric"), &[Mark("-"), Named("encryption")]),
-    (Named("asymmetric"), &[Mark("-"), Named("encryption")]),
-    (Named("signing"), &[]),
-    (Named("revealing"), &[Mark("-"), Named("signing")]),
+    (Named("hashing"), Always, &[]),
+    (
+        Named("symmetric"),
+        Always,
+        &[Mark("-"), Named("encryption")],
+    ),
+    (
+        Named("asymmetric"),
+        Always,
+        &[Mark("-"), Named("encryption")],
+    ),
+    (Named("signing"), Always, &[]),
+    (Named("revealing"), Always, &[Mark("-"), Named("signing")]),
 ];
 
-pub(crate) const MORE_BUILTINS: &[Row] = &[(Mark(","), &[A(Builtin), A(MoreBuiltins)])];
+pub(crate) const MORE_BUILTINS: &[Row] = &[(
+    Mark(","),
+    Always,
+    &[A(Builtin, Same), A(MoreBuiltins, Same)],
+)];
 
-pub(crate) const FUNCTION: &[Row] = &[(Lower, &[Mark("/"), Arity, A(Privacy)])];
+pub(crate) const FUNCTION: &[Row] = &[(Lower, Always, &[Mark("/"), Arity, A(Privacy, Same)])];
 
-pub(crate) const PRIVACY: &[Row] = &[(Mark("["), &[Named("private"), Mark("]"), A(MoreFunctions)])];
+pub(crate) const PRIVACY: &[Row] = &[(
+    Mark("["),
+    Always,
+    &[Named("private"), Mark("]"), A(MoreFunctions, Same)],
+)];
 
-pub(crate) const MORE_FUNCTIONS: &[Row] = &[(Mark(","), &[A(Function)])];
+pub(crate) const MORE_FUNCTIONS: &[Row] = &[(Mark(","), Always, &[A(Function, Same)])];
 
 pub(crate) const PARAMETERS: &[Row] = &[
-    (Mark("="), &[]),
-    (Mark("("), &[Name, A(MoreParameters), Mark("=")]),
+    (Mark("="), Always, &[]),
+    (
+        Mark("("),
+        Always,
+        &[Name, A(MoreParameters, Same), Mark("=")],
+    ),
 ];
 
 pub(crate) const MORE_PARAMETERS: &[Row] = &[
-    (Mark(")"), &[]),
-    (Mark(","), &[Name, A(MoreParameters)]),
+    (Mark(")"), Always, &[]),
+    (Mark(","), Always, &[Name, A(MoreParameters, Same)]),
 ];
 
 pub(crate) const LEMMA: &[Row] = &[
     (
         Mark("["),
-        &[A(Attribute), A(MoreAttributes), Mark(":"), A(Mode)],
+        Always,
+        &[
+            A(Attribute, Same),
+            A(MoreAttributes, Same),
+            Mark(":"),
+            A(Mode, Same),
+        ],
     ),
-    (Mark(":"), &[A(Mode)]),
+    (Mark(":"), Always, &[A(Mode, Same)]),
 ];
 
 pub(crate) const ATTRIBUTE: &[Row] = &[
-    (Named("reuse"), &[]),
-    (Named("use_induction"), &[]),
-    (Named("sources"), &[]),
+    (Named("reuse"), Always, &[]),
+    (Named("use_induction"), Always, &[]),
+    (Named("sources"), Always, &[]),
 ];
 
 pub(crate) const MORE_ATTRIBUTES: &[Row] = &[
-    (Mark(","), &[A(Attribute), A(MoreAttributes)]),
-    (Mark("]"), &[]),
+    (
+        Mark(","),
+        Always,
+        &[A(Attribute, Same), A(MoreAttributes, Same)],
+    ),
+    (Mark("]"), Always, &[]),
 ];
 
 pub(crate) const MODE: &[Row] = &[
-    (Mark("\""), &[A(Formula)]),
+    (Mark("\""), Always, &[A(Equivalence, OfFormula), Mark("\"")]),
     (
         Named("all"),
-        &[Mark("-"), Named("traces"), Mark("\""), A(Formula)],
+        Always,
+        &[
+            Mark("-"),
+            Named("traces"),
+            Mark("\""),
+            A(Equivalence, OfFormula),
+            Mark("\""),
+        ],
     ),
     (
         Named("exists"),
-        &[Mark("-"), Named("trace"), Mark("\""), A(Formula)],
+        Always,
+        &[
+            Mark("-"),
+            Named("trace"),
+            Mark("\""),
+            A(Equivalence, OfFormula),
+            Mark("\""),
+        ],
     ),
 ];
 
+pub(crate) const BARS: &[Row] = &[
+    (Mark("|"), GoesOn, &[A(Process, Below), Level(Joined)]),
+    (Mark("||"), GoesOn, &[A(Process, Below), Level(Joined)]),
+];
+
 pub(crate) const SEQUENCE: &[Row] = &[
-    (Zero, &[]),
-    (Name, &[A(Arguments)]),
-    (Mark("("), &[A(Sequence), A(InnerBars)]),
-    (Mark("!"), &[A(Sequence)]),
-    (Mark("new"), &[A(NewName), A(Then)]),
-    (Mark("out"), &[Mark("("), A(Term), A(Message), A(Then)]),
-    (Mark("in"), &[Mark("("), A(Term), A(Message), A(Then)]),
-    (Mark("event"), &[Upper, Mark("("), A(Terms), A(Then)]),
-    (Mark("insert"), &[A(Term), Mark(","), A(Term), A(Then)]),
-    (Mark("delete"), &[A(Term), A(Then)]),
-    (Mark("lock"), &[A(Term), A(Then)]),
-    (Mark("unlock"), &[A(Term), A(Then)]),
-    (Mark("["), &[A(Facts), A(Arrow), A(Then)]),
+    (Zero, Always, &[Level(One)]),
+    (Name, Always, &[A(Arguments, Same)]),
+    (
+        Mark("("),
+        HasRoom,
+        &[A(Process, Below), Mark(")"), Level(More)],
+    ),
+    (Mark("!"), HasRoom, &[A(Sequence, Below), Level(More)]),
+    (Mark("new"), HasRoom, &[A(NewName, Same), A(Then, Same)]),
+    (
+        Mark("out"),
+        HasRoom,
+        &[Mark("("), A(Term, OfTerm), A(Message, Same), A(Then, Same)],
+    ),
+    (
+        Mark("in"),
+        HasRoom,
+        &[Mark("("), A(Term, OfTerm), A(Message, Same), A(Then, Same)],
+    ),
+    (
+        Mark("event"),
+        HasRoom,
+        &[Upper, Mark("("), A(Terms, OfTerm), A(Then, Same)],
+    ),
+    (
+        Mark("insert"),
+        HasRoom,
+        &[A(Term, OfTerm), Mark(","), A(Term, OfTerm), A(Then, Same)],
+    ),
+    (Mark("delete"), HasRoom, &[A(Term, OfTerm), A(Then, Same)]),
+    (Mark("lock"), HasRoom, &[A(Term, OfTerm), A(Then, Same)]),
+    (Mark("unlock"), HasRoom, &[A(Term, OfTerm), A(Then, Same)]),
+    (
+        Mark("["),
+        HasRoom,
+        &[A(Facts, Same), A(Arrow, Same), A(Then, Same)],
+    ),
     (
         Mark("if"),
+        HasRoom,
         &[
-            A(Term),
+            A(Term, OfTerm),
             Mark("="),
-            A(Term),
+            A(Term, OfTerm),
             Mark("then"),
-            A(Sequence),
-            A(Else),
+            A(Sequence, Below),
+            A(Else, Same),
         ],
     ),
     (
         Mark("lookup"),
-        &[A(Term), Mark("as"), Name, Mark("in"), A(Sequence), A(Else)],
-    ),
-];
-
-pub(crate) const ARGUMENTS: &[Row] = &[(Mark("("), &[A(Term), A(MoreTerms)])];
-
-pub(crate) const THEN: &[Row] = &[(Mark(";"), &[A(Sequence)])];
-
-pub(crate) const ELSE: &[Row] = &[(Mark("else"), &[A(Sequence)])];
-
-pub(crate) const BARS: &[Row] = &[
-    (Mark("|"), &[A(Sequence), A(Bars)]),
-    (Mark("||"), &[A(Sequence), A(Bars)]),
-];
-
-pub(crate) const INNER_BARS: &[Row] = &[
-    (Mark(")"), &[]),
-    (Mark("|"), &[A(Sequence), A(InnerBars)]),
-    (Mark("||"), &[A(Sequence), A(InnerBars)]),
-];
-
-pub(crate) const NEW_NAME: &[Row] = &[(Mark("~"), &[Name]), (Name, &[])];
-
-pub(crate) const MESSAGE: &[Row] = &[(Mark(")"), &[]), (Mark(","), &[A(Term), Mark(")")])];
-
-pub(crate) const FACTS: &[Row] = &[(Mark("]"), &[])];
-
-pub(crate) const MORE_FACTS: &[Row] = &[(Mark("]"), &[]), (Mark(","), &[A(Fact), A(MoreFacts)])];
-
-pub(crate) const FACT: &[Row] = &[
-    (Upper, &[Mark("("), A(Terms)]),
-    (Mark("!"), &[Upper, Mark("("), A(Terms)]),
-];
-
-pub(crate) const ARROW: &[Row] = &[
-    (Mark("-->"), &[Mark("["), A(Facts)]),
-    (Mark("--["), &[A(Shown), Mark("["), A(Facts)]),
-];
-
-pub(crate) const SHOWN: &[Row] = &[
-    (Mark("]->"), &[]),
-    (Upper, &[Mark("("), A(Terms), A(MoreShown)]),
-];
-
-pub(crate) const MORE_SHOWN: &[Row] = &[
-    (Mark("]->"), &[]),
-    (Mark(","), &[Upper, Mark("("), A(Terms), A(MoreShown)]),
-];
-
-pub(crate) const TERM: &[Row] = &[
-    (Quoted, &[]),
-    (Lower, &[A(Application)]),
-    (Name, &[]),
-    (Mark("~"), &[Name]),
-    (Mark("$"), &[Name]),
-    (Mark("<"), &[A(Term), Mark(","), A(Term), A(MoreParts)]),
-];
-
-pub(crate) const APPLICATION: &[Row] = &[(Mark("("), &[A(Terms)])];
-
-pub(crate) const TERMS: &[Row] = &[(Mark(")"), &[])];
-
-pub(crate) const MORE_TERMS: &[Row] = &[(Mark(")"), &[]), (Mark(","), &[A(Term), A(MoreTerms)])];
-
-pub(crate) const MORE_PARTS: &[Row] = &[(Mark(">"), &[]), (Mark(","), &[A(Term), A(MoreParts)])];
-
-pub(crate) const FORMULA: &[Row] = &[
-    (Named("T"), &[A(Truth), A(Joined)]),
-    (Named("F"), &[A(Truth), A(Joined)]),
-    (Mark("not"), &[A(Formula)]),
-    (Mark("All"), &[A(Binders), A(Formula)]),
-    (Mark("Ex"), &[A(Binders), A(Formula)]),
-    (Mark("("), &[A(InnerFormula), A(Joined)]),
-];
-
-pub(crate) const JOINED: &[Row] = &[
-    (Mark("\""), &[]),
-    (Mark("&"), &[A(Formula)]),
-    (Mark("|"), &[A(Formula)]),
-    (Mark("==>"), &[A(Formula)]),
-    (Mark("<=>"), &[A(Second)]),
-];
-
-pub(crate) const SECOND: &[Row] = &[
-    (Named("T"), &[A(Truth), A(SecondJoined)]),
-    (Named("F"), &[A(Truth), A(SecondJoined)]),
-    (Mark("not"), &[A(Second)]),
-    (Mark("All"), &[A(Binders), A(Formula)]),
-    (Mark("Ex"), &[A(Binders), A(Formula)]),
-    (Mark("("), &[A(InnerFormula), A(SecondJoined)]),
-];
-
-pub(crate) const SECOND_JOINED: &[Row] = &[
-    (Mark("\""), &[]),
-    (Mark("&"), &[A(Second)]),
-    (Mark("|"), &[A(Second)]),
-    (Mark("==>"), &[A(Second)]),
-];
-
-pub(crate) const INNER_FORMULA: &[Row] = &[
-    (Named("T"), &[A(Truth), A(InnerJoined)]),
-    (Named("F"), &[A(Truth), A(InnerJoined)]),
-    (Mark("not"), &[A(InnerFormula)]),
-    (Mark("All"), &[A(Binders), A(InnerFormula)]),
-    (Mark("Ex"), &[A(Binders), A(InnerFormula)]),
-    (Mark("("), &[A(InnerFormula), A(InnerJoined)]),
-];
-
-pub(crate) const INNER_JOINED: &[Row] = &[
-    (Mark(")"), &[]),
-    (Mark("&"), &[A(InnerFormula)]),
-    (Mark("|"), &[A(InnerFormula)]),
-    (Mark("==>"), &[A(InnerFormula)]),
-    (Mark("<=>"), &[A(InnerSecond)]),
-];
-
-pub(crate) const INNER_SECOND: &[Row] = &[
-    (Named("T"), &[A(Truth), A(InnerSecondJoined)]),
-    (Named("F"), &[A(Truth), A(InnerSecondJoined)]),
-    (Mark("not"), &[A(InnerSecond)]),
-    (Mark("All"), &[A(Binders), A(InnerFormula)]),
-    (Mark("Ex"), &[A(Binders), A(InnerFormula)]),
-    (Mark("("), &[A(InnerFormula), A(InnerSecondJoined)]),
-];
-
-pub(crate) const INNER_SECOND_JOINED: &[Row] = &[
-    (Mark(")"), &[]),
-    (Mark("&"), &[A(InnerSecond)]),
-    (Mark("|"), &[A(InnerSecond)]),
-    (Mark("==>"), &[A(InnerSecond)]),
-];
-
-pub(crate) const TRUTH: &[Row] = &[(Mark("("), &[A(Terms), Mark("@"), A(Time)])];
-
-pub(crate) const ATOM: &[Row] = &[
-    (Upper, &[A(UpperAtom)]),
-    (Name, &[A(LowerAtom)]),
-    (Mark("#"), &[Name, A(Times)]),
-    (Quoted, &[Mark("="), A(Term)]),
-    (Mark("~"), &[Name, Mark("="), A(Term)]),
-    (Mark("$"), &[Name, Mark("="), A(Term)]),
-    (
-        Mark("<"),
+        HasRoom,
         &[
-            A(Term),
-            Mark(","),
-            A(Term),
-            A(MoreParts),
-            Mark("="),
-            A(Term),
+            A(Term, OfTerm),
+            Mark("as"),
+            Name,
+            Mark("in"),
+            A(Sequence, Below),
+            A(Else, Same),
         ],
     ),
 ];
 
+pub(crate) const ARGUMENTS: &[Row] = &[(
+    Mark("("),
+    Always,
+    &[A(Term, OfTerm), A(MoreTerms, OfTerm), Level(One)],
+)];
+
+pub(crate) const THEN: &[Row] = &[(Mark(";"), Always, &[A(Sequence, Below), Level(More)])];
+
+pub(crate) const ELSE: &[Row] = &[(Mark("else"), Always, &[A(Sequence, Below), Level(Joined)])];
+
+pub(crate) const NEW_NAME: &[Row] = &[(Mark("~"), Always, &[Name]), (Name, Always, &[])];
+
+pub(crate) const MESSAGE: &[Row] = &[
+    (Mark(")"), Always, &[]),
+    (Mark(","), Always, &[A(Term, OfTerm), Mark(")")]),
+];
+
+pub(crate) const FACTS: &[Row] = &[(Mark("]"), Always, &[])];
+
+pub(crate) const MORE_FACTS: &[Row] = &[
+    (Mark("]"), Always, &[]),
+    (Mark(","), Always, &[A(Fact, Same), A(MoreFacts, Same)]),
+];
+
+pub(crate) const FACT: &[Row] = &[
+    (Upper, Always, &[Mark("("), A(Terms, OfTerm)]),
+    (Mark("!"), Always, &[Upper, Mark("("), A(Terms, OfTerm)]),
+];
+
+pub(crate) const ARROW: &[Row] = &[
+    (Mark("-->"), Always, &[Mark("["), A(Facts, Same)]),
+    (
+        Mark("--["),
+        Always,
+        &[A(Shown, Same), Mark("["), A(Facts, Same)],
+    ),
+];
+
+pub(crate) const SHOWN: &[Row] = &[
+    (Mark("]->"), Always, &[]),
+    (
+        Upper,
+        Always,
+        &[Mark("("), A(Terms, OfTerm), A(MoreShown, Same)],
+    ),
+];
+
+pub(crate) const MORE_SHOWN: &[Row] = &[
+    (Mark("]->"), Always, &[]),
+    (
+        Mark(","),
+        Always,
+        &[Upper, Mark("("), A(Terms, OfTerm), A(MoreShown, Same)],
+    ),
+];
+
+pub(crate) const TERM: &[Row] = &[
+    (Quoted, Always, &[Level(One)]),
+    (Lower, Always, &[A(Application, Same)]),
+    (Name, Always, &[Level(One)]),
+    (Mark("~"), Always, &[Name, Level(One)]),
+    (Mark("$"), Always, &[Name, Level(One)]),
+    (Mark("<"), HasRoom, &[A(Term, Below), A(Pair, Same)]),
+];
+
+pub(crate) const APPLICATION: &[Row] = &[(Mark("("), Always, &[A(Terms, Below), Level(More)])];
+
+pub(crate) const TERMS: &[Row] = &[(Mark(")"), Always, &[Level(Nothing)])];
+
+pub(crate) const MORE_TERMS: &[Row] = &[
+    (Mark(")"), Always, &[]),
+    (
+        Mark(","),
+        Always,
+        &[A(Term, Same), Level(Deepest), A(MoreTerms, Same)],
+    ),
+];
+
+pub(crate) const PAIR: &[Row] = &[(
+    Mark(","),
+    Always,
+    &[A(Term, Below), A(MoreParts, Below), Level(Joined)],
+)];
+
+pub(crate) const MORE_PARTS: &[Row] = &[
+    (Mark(">"), Always, &[]),
+    (
+        Mark(","),
+        GoesOn,
+        &[A(Term, Below), A(MoreParts, Below), Level(Joined)],
+    ),
+];
+
+pub(crate) const MORE_EQUIVALENCE: &[Row] = &[(
+    Mark("<=>"),
+    GoesOn,
+    &[A(Implication, Below), Level(Joined), A(Ended, Same)],
+)];
+
+pub(crate) const ENDED: &[Row] = &[(Mark("<=>"), Never, &[])];
+
+pub(crate) const MORE_IMPLICATION: &[Row] = &[(
+    Mark("==>"),
+    GoesOn,
+    &[A(Implication, Below), Level(Joined)],
+)];
+
+pub(crate) const MORE_DISJUNCTION: &[Row] = &[(
+    Mark("|"),
+    GoesOn,
+    &[
+        A(Conjunction, Below),
+        Level(Joined),
+        A(MoreDisjunction, Same),
+    ],
+)];
+
+pub(crate) const MORE_CONJUNCTION: &[Row] = &[(
+    Mark("&"),
+    GoesOn,
+    &[A(Formula, Below), Level(Joined), A(MoreConjunction, Same)],
+)];
+
+pub(crate) const FORMULA: &[Row] = &[
+    (Named("T"), Always, &[A(Truth, Same)]),
+    (Named("F"), Always, &[A(Truth, Same)]),
+    (Mark("not"), HasRoom, &[A(Formula, Below), Level(More)]),
+    (
+        Mark("All"),
+        HasRoom,
+        &[A(Binders, Same), A(Equivalence, Below), Level(More)],
+    ),
+    (
+        Mark("Ex"),
+        HasRoom,
+        &[A(Binders, Same), A(Equivalence, Below), Level(More)],
+    ),
+    (
+        Mark("("),
+        HasRoom,
+        &[A(Equivalence, Below), Mark(")"), Level(More)],
+    ),
+];
+
+pub(crate) const TRUTH: &[Row] = &[(
+    Mark("("),
+    Always,
+    &[A(Terms, OfTerm), Mark("@"), A(Time, Same), Level(One)],
+)];
+
+pub(crate) const ATOM: &[Row] = &[
+    (Upper, Always, &[A(UpperAtom, Same)]),
+    (Name, Always, &[A(LowerAtom, Same)]),
+    (Mark("#"), Always, &[Name, A(Times, Same)]),
+    (Quoted, Always, &[Mark("="), A(Term, Same)]),
+    (Mark("~"), Always, &[Name, Mark("="), A(Term, Same)]),
+    (Mark("$"), Always, &[Name, Mark("="), A(Term, Same)]),
+    (
+        Mark("<"),
+        HasRoom,
+        &[A(Term, Below), A(Pair, Same), Mark("="), A(Term, Same)],
+    ),
+];
+
 pub(crate) const UPPER_ATOM: &[Row] = &[
-    (Mark("("), &[A(Terms), Mark("@"), A(Time)]),
-    (Mark("="), &[A(Term)]),
-    (Mark("<"), &[A(Time)]),
+    (
+        Mark("("),
+        Always,
+        &[A(Terms, Same), Mark("@"), A(Time, Same)],
+    ),
+    (Mark("="), Always, &[A(Term, Same)]),
+    (Mark("<"), Always, &[A(Time, Same)]),
 ];
 
 pub(crate) const LOWER_ATOM: &[Row] = &[
-    (Mark("("), &[A(Terms), Mark("="), A(Term)]),
-    (Mark("="), &[A(Term)]),
-    (Mark("<"), &[A(Time)]),
+    (
+        Mark("("),
+        Always,
+        &[A(Terms, Below), Mark("="), A(Term, Same)],
+    ),
+    (Mark("="), Always, &[A(Term, Same)]),
+    (Mark("<"), Always, &[A(Time, Same)]),
 ];
 
-pub(crate) const TIMES: &[Row] = &[(Mark("="), &[Mark("#"), Name]), (Mark("<"), &[A(Time)])];
+pub(crate) const TIMES: &[Row] = &[
+    (Mark("="), Always, &[Mark("#"), Name]),
+    (Mark("<"), Always, &[A(Time, Same)]),
+];
 
-pub(crate) const TIME: &[Row] = &[(Name, &[]), (Mark("#"), &[Name])];
+pub(crate) const TIME: &[Row] = &[(Name, Always, &[]), (Mark("#"), Always, &[Name])];
 
 pub(crate) const BINDERS: &[Row] = &[
-    (Name, &[A(MoreBinders)]),
-    (Mark("~"), &[Name, A(MoreBinders)]),
-    (Mark("$"), &[Name, A(MoreBinders)]),
-    (Mark("#"), &[Name, A(MoreBinders)]),
+    (Name, Always, &[A(MoreBinders, Same)]),
+    (Mark("~"), Always, &[Name, A(MoreBinders, Same)]),
+    (Mark("$"), Always, &[Name, A(MoreBinders, Same)]),
+    (Mark("#"), Always, &[Name, A(MoreBinders, Same)]),
 ];
 
-pub(crate) const MORE_BINDERS: &[Row] = &[(Mark("."), &[])];
+pub(crate) const MORE_BINDERS: &[Row] = &[(Mark("."), Always, &[])];
 
 // What a part is where none of its rows begins with the next word.
 
-pub(crate) const NOTHING: &[Wanted] = &[];
+pub(crate) const THE_ITEMS: Turn = (Always, &[A(Items, Same)]);
 
-pub(crate) const THE_ITEMS: &[Wanted] = &[A(Items)];
+pub(crate) const THE_FUNCTIONS: Turn = (Always, &[A(MoreFunctions, Same)]);
 
-pub(crate) const THE_FUNCTIONS: &[Wanted] = &[A(MoreFunctions)];
+pub(crate) const A_SEQUENCE: Turn = (Always, &[A(Sequence, Same), A(Bars, Same)]);
 
-pub(crate) const SOME_FACTS: &[Wanted] = &[A(Fact), A(MoreFacts)];
+pub(crate) const NO_MORE: Turn = (Always, &[]);
 
-pub(crate) const SOME_TERMS: &[Wanted] = &[A(Term), A(MoreTerms)];
+pub(crate) const A_LEAF: Turn = (Always, &[Level(One)]);
 
-pub(crate) const SOME_BINDERS: &[Wanted] = &[A(Binders)];
+pub(crate) const A_NIL: Turn = (Always, &[Level(Two)]);
 
-pub(crate) const AN_ATOM: &[Wanted] = &[A(Atom), A(Joined)];
+pub(crate) const NO_OTHER_BRANCH: Turn = (Always, &[Level(More)]);
 
-pub(crate) const A_SECOND_ATOM: &[Wanted] = &[A(Atom), A(SecondJoined)];
+pub(crate) const SOME_FACTS: Turn = (Always, &[A(Fact, Same), A(MoreFacts, Same)]);
 
-pub(crate) const AN_INNER_ATOM: &[Wanted] = &[A(Atom), A(InnerJoined)];
+pub(crate) const SOME_TERMS: Turn = (HasLevel, &[A(Term, Same), A(MoreTerms, Same)]);
 
-pub(crate) const AN_INNER_SECOND_ATOM: &[Wanted] = &[A(Atom), A(InnerSecondJoined)];
+pub(crate) const AN_IMPLICATION: Turn = (Always, &[A(Implication, Same), A(MoreEquivalence, Same)]);
+
+pub(crate) const A_DISJUNCTION: Turn = (Always, &[A(Disjunction, Same), A(MoreImplication, Same)]);
+
+pub(crate) const A_CONJUNCTION: Turn = (Always, &[A(Conjunction, Same), A(MoreDisjunction, Same)]);
+
+pub(crate) const A_FORMULA: Turn = (Always, &[A(Formula, Same), A(MoreConjunction, Same)]);
+
+pub(crate) const AN_ATOM: Turn = (Always, &[A(Atom, OfTerm), Level(One)]);
+
+pub(crate) const SOME_BINDERS: Turn = (Always, &[A(Binders, Same)]);

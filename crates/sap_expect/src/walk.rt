@@ -1,19 +1,23 @@
 //! The first word of a file that is wrong by the table of its words.
-ghost use Rattle.std.specs.Prelude.{◌≡◌, [], ◌∷◌, ◌++◌, true, false, IfOk, OnOk, MatchOption, map};
+ghost use Rattle.std.specs.Prelude.{◌≡◌, ◌+◌, [], ◌∷◌, ◌++◌, true, false, IfOk, OnOk, MatchOption, map};
 ghost use Rattle.std.specs.Option.{option_copied};
+ghost use Rattle.sap_text.specs.Spans.{AreTokens};
 ghost use Rattle.sap_text.specs.declared.token.Token.{Token};
 ghost use Rattle.sap_grammar.specs.Words.{is_lower, is_upper, word_of, words_of};
-ghost use Rattle.sap_expect.specs.FileTable.{part as part_of, FollowsTable, is_arity, is_such, is_wanted, otherwise, row_among, rows};
+ghost use Rattle.sap_expect.specs.declared.wanted.Limit.{Limit};
+ghost use Rattle.sap_expect.specs.FileTable.{part as part_of, all_opened, changed, holds, is_arity, is_such, is_wanted, limit as limit_of, opened, otherwise, row_among, rows};
+ghost use Rattle.sap_expect.specs.FileWords.{IsFileWords};
 ghost use Rattle.sap_expect.specs.FirstWrong.{IsFirstWrong};
 ghost use Rattle.sap_expect.specs.code.Steps.{Stepped, Taken};
-ghost use Rattle.sap_expect.specs.code.WantedView.{all_wanted, row_of, stacked, wanted as view, wanted_there};
+ghost use Rattle.sap_expect.specs.code.WantedView.{all_wanted, open_of, row_of, stacked, turn_there, wanted as view};
 
 use crate::table;
-use crate::table::Row;
-use crate::wanted::{Part, Wanted};
+use crate::table::{Row, Turn};
+use crate::wanted::{Change, Limit, Part, Test, Wanted};
+use sap_draft::FILE_LIMITS;
 use sap_grammar::{is_lower, is_mark, is_upper, name_at, names, number_at, quoted_at, starts_zero};
-use sap_terms::{MOST_ARITY, Mem};
-use sap_text::Token;
+use sap_terms::{MOST_ARITY, MOST_PROCESS_LEVELS, Mem};
+use sap_text::{Token, spans_are_tokens};
 use std::alloc::Global;
 
 // Whether these are the digits of an arity.
@@ -71,17 +75,17 @@ fn is_wanted(bytes: &[u8], token: Token, wanted: Wanted) -> bool
         Wanted::Quoted => quoted_at(bytes, &tokens).is_some(),
         Wanted::Zero => starts_zero(bytes, &tokens),
         Wanted::Arity => is_arity_at(number_at(bytes, &tokens)),
-        Wanted::A(_) => false,
+        Wanted::A(_, _) | Wanted::Level(_) => false,
     }
 }
 
-// What is wanted behind the token, by the first of the rows that it begins.
-fn row_among(bytes: &[u8], token: Token, rows: &'static [Row]) -> Option<&'static [Wanted]>
-    ensures { wanted_there result ≡ row_among (map row_of rows.now) (word_of bytes.now token) }
+// What is wanted behind the token, by the first of the rows that it begins, and where.
+fn row_among(bytes: &[u8], token: Token, rows: &'static [Row]) -> Option<Turn>
+    ensures { turn_there result ≡ row_among (map row_of rows.now) (word_of bytes.now token) }
 {
     for row in rows {
         if is_wanted(bytes, token, row.0) {
-            return Some(row.1);
+            return Some((row.1, row.2));
         }
     }
     None
@@ -105,12 +109,11 @@ fn rows(part: Part) -> &'static [Row]
         Part::Attribute => table::ATTRIBUTE,
         Part::MoreAttributes => table::MORE_ATTRIBUTES,
         Part::Mode => table::MODE,
+        Part::Bars => table::BARS,
         Part::Sequence => table::SEQUENCE,
         Part::Arguments => table::ARGUMENTS,
         Part::Then => table::THEN,
         Part::Else => table::ELSE,
-        Part::Bars => table::BARS,
-        Part::InnerBars => table::INNER_BARS,
         Part::NewName => table::NEW_NAME,
         Part::Message => table::MESSAGE,
         Part::Facts => table::FACTS,
@@ -123,15 +126,14 @@ fn rows(part: Part) -> &'static [Row]
         Part::Application => table::APPLICATION,
         Part::Terms => table::TERMS,
         Part::MoreTerms => table::MORE_TERMS,
+        Part::Pair => table::PAIR,
         Part::MoreParts => table::MORE_PARTS,
+        Part::MoreEquivalence => table::MORE_EQUIVALENCE,
+        Part::Ended => table::ENDED,
+        Part::MoreImplication => table::MORE_IMPLICATION,
+        Part::MoreDisjunction => table::MORE_DISJUNCTION,
+        Part::MoreConjunction => table::MORE_CONJUNCTION,
         Part::Formula => table::FORMULA,
-        Part::Joined => table::JOINED,
-        Part::Second => table::SECOND,
-        Part::SecondJoined => table::SECOND_JOINED,
-        Part::InnerFormula => table::INNER_FORMULA,
-        Part::InnerJoined => table::INNER_JOINED,
-        Part::InnerSecond => table::INNER_SECOND,
-        Part::InnerSecondJoined => table::INNER_SECOND_JOINED,
         Part::Truth => table::TRUTH,
         Part::Atom => table::ATOM,
         Part::UpperAtom => table::UPPER_ATOM,
@@ -140,106 +142,213 @@ fn rows(part: Part) -> &'static [Row]
         Part::Time => table::TIME,
         Part::Binders => table::BINDERS,
         Part::MoreBinders => table::MORE_BINDERS,
+        Part::Process
+        | Part::Equivalence
+        | Part::Implication
+        | Part::Disjunction
+        | Part::Conjunction => &[],
     }
 }
 
 // What a part is where the next word begins none of its rows.
-fn otherwise(part: Part) -> Option<&'static [Wanted]>
-    ensures { wanted_there result ≡ otherwise part }
+fn otherwise(part: Part) -> Option<Turn>
+    ensures { turn_there result ≡ otherwise part }
 {
     match part {
-        Part::MoreBuiltins | Part::MoreFunctions | Part::Bars => Some(table::THE_ITEMS),
+        Part::MoreBuiltins | Part::MoreFunctions => Some(table::THE_ITEMS),
         Part::Privacy => Some(table::THE_FUNCTIONS),
-        Part::Arguments | Part::Then | Part::Else => Some(table::NOTHING),
-        Part::Application | Part::Truth => Some(table::NOTHING),
+        Part::Process => Some(table::A_SEQUENCE),
+        Part::Bars
+        | Part::Ended
+        | Part::MoreEquivalence
+        | Part::MoreImplication
+        | Part::MoreDisjunction
+        | Part::MoreConjunction => Some(table::NO_MORE),
+        Part::Arguments | Part::Application | Part::Truth => Some(table::A_LEAF),
+        Part::Then => Some(table::A_NIL),
+        Part::Else => Some(table::NO_OTHER_BRANCH),
         Part::Facts => Some(table::SOME_FACTS),
         Part::Terms => Some(table::SOME_TERMS),
-        Part::MoreBinders => Some(table::SOME_BINDERS),
+        Part::Equivalence => Some(table::AN_IMPLICATION),
+        Part::Implication => Some(table::A_DISJUNCTION),
+        Part::Disjunction => Some(table::A_CONJUNCTION),
+        Part::Conjunction => Some(table::A_FORMULA),
         Part::Formula => Some(table::AN_ATOM),
-        Part::Second => Some(table::A_SECOND_ATOM),
-        Part::InnerFormula => Some(table::AN_INNER_ATOM),
-        Part::InnerSecond => Some(table::AN_INNER_SECOND_ATOM),
+        Part::MoreBinders => Some(table::SOME_BINDERS),
         _ => None,
     }
 }
 
+// The most levels of a part in one of at most `most`.
+fn limit(limit: Limit, most: u64) -> u64
+    ensures { result ≡ limit_of limit most }
+{
+    match limit {
+        Limit::Same => most,
+        Limit::Below => most.saturating_sub(1),
+        Limit::OfTerm => u64::from(FILE_LIMITS.term_levels),
+        Limit::OfProcess => MOST_PROCESS_LEVELS,
+        Limit::OfFormula => u64::from(FILE_LIMITS.formula_levels),
+    }
+}
+
+// Whether a part of at most `most` levels may begin so, where what ended last has these.
+fn holds(test: Test, most: u64, levels: u64) -> bool
+    ensures { result ≡ holds test most levels }
+{
+    match test {
+        Test::Always => true,
+        Test::Never => false,
+        Test::HasLevel => 1 <= most,
+        Test::HasRoom => 2 <= most,
+        Test::GoesOn => levels < most,
+    }
+}
+
+fn deeper(levels: u64, before: u64) -> u64
+    ensures { result ≡ changed Change.Deepest levels before }
+{
+    if before < levels { levels } else { before }
+}
+
+// One more; so many levels as have no number need more memory than there is.
+fn one_more(levels: u64) -> Result<u64, Mem>
+    ensures { IfOk result (λ n. n ≡ levels + 1) }
+{
+    levels.checked_add(1).ok_or(Mem)
+}
+
+// The levels of what ended, where what ended last has these, and what had ended before has those.
+fn changed(change: Change, levels: u64, before: u64) -> Result<u64, Mem>
+    ensures { IfOk result (λ n. n ≡ changed change levels before) }
+{
+    match change {
+        Change::Nothing => Ok(0),
+        Change::One => Ok(1),
+        Change::Two => Ok(2),
+        Change::More => one_more(levels),
+        Change::Deepest => Ok(deeper(levels, before)),
+        Change::Joined => one_more(deeper(levels, before)),
+    }
+}
+
+/// What is wanted, with the levels that it may have, or those of what had ended.
+type Open = (Wanted, u64);
+
+// What is wanted in a part of at most `most` levels, where what ended last has these.
+fn opened(wanted: Wanted, most: u64, levels: u64) -> Open
+    ensures { open_of result ≡ opened most levels (view wanted) }
+{
+    match wanted {
+        Wanted::A(_, of) => (wanted, limit(of, most)),
+        Wanted::Level(_) => (wanted, levels),
+        _ => (wanted, 0),
+    }
+}
+
 // Puts what is wanted on top, the first of it topmost.
-fn push_all(stack: &mut Vec<Wanted>, wanted: &[Wanted]) -> Result<(), Mem>
-    ensures { OnOk result (stacked stack.new.items ≡ all_wanted wanted.now
+fn push_all(stack: &mut Vec<Open>, wanted: &[Wanted], most: u64, levels: u64) -> Result<(), Mem>
+    ensures { OnOk result (stacked stack.new.items ≡ all_opened most levels (all_wanted wanted.now)
         ++ stacked stack.old.items) }
 {
     let mut k = wanted.len();
     while k > 0 {
         k -= 1;
-        stack.push(wanted[k])?;
+        stack.push(opened(wanted[k], most, levels))?;
     }
     Ok(())
 }
 
-// A step with a part that is wanted: whether the token is taken or wrong, or nothing yet, where the part is something else.
-fn step_part(
-    stack: &mut Vec<Wanted>,
-    bytes: &[u8],
-    token: Token,
-    part: Part,
-) -> Result<Option<bool>, Mem>
-    ensures { IfOk result (λ o. Stepped (part_of part ∷ stacked stack.old.items)
-        (word_of bytes.now token) (stacked stack.new.items) o) }
-{
-    if let Some(rest) = row_among(bytes, token, rows(part)) {
-        push_all(stack, rest)?;
-        return Ok(Some(true));
-    }
-    match otherwise(part) {
-        Some(other) => {
-            push_all(stack, other)?;
-            Ok(None)
+// A walk over the words of a file: the levels of what ended last, and what is wanted, the first of it last.
+#[derive(Drop)]
+struct Walk {
+    levels: u64,
+    stack: Vec<Open>,
+}
+
+impl Walk {
+    // A step with a part that is wanted: whether the token is taken or wrong, or nothing yet, where the part is something else.
+    fn step_part(
+        &mut self,
+        bytes: &[u8],
+        token: Token,
+        part: Part,
+        most: u64,
+    ) -> Result<Option<bool>, Mem>
+        ensures { IfOk result (λ o. (l : Limit) → Stepped self.old.levels
+            ((part_of part l, most) ∷ stacked self.old.stack.items) (word_of bytes.now token)
+            self.new.levels (stacked self.new.stack.items) o) }
+    {
+        if let Some((test, rest)) = row_among(bytes, token, rows(part)) {
+            if !holds(test, most, self.levels) {
+                return Ok(Some(false));
+            }
+            push_all(&mut self.stack, rest, most, self.levels)?;
+            return Ok(Some(true));
         }
-        None => Ok(Some(false)),
-    }
-}
-
-// A step with what is wanted on top.
-fn step(stack: &mut Vec<Wanted>, bytes: &[u8], token: Token) -> Result<Option<bool>, Mem>
-    ensures { IfOk result (λ o. Stepped (stacked stack.old.items) (word_of bytes.now token)
-        (stacked stack.new.items) o) }
-{
-    match stack.pop() {
-        None => Ok(Some(false)),
-        Some(wanted) => match wanted {
-            Wanted::A(part) => step_part(stack, bytes, token, part),
-            _ => Ok(Some(is_wanted(bytes, token, wanted))),
-        },
-    }
-}
-
-// Takes the token, where it may stand next; what is wanted behind it is on the stack then.
-fn take(stack: &mut Vec<Wanted>, bytes: &[u8], token: Token) -> Result<bool, Mem>
-    ensures { IfOk result (λ b. Taken (stacked stack.old.items) (word_of bytes.now token)
-        (stacked stack.new.items) b) }
-{
-    loop {
-        if let Some(taken) = step(stack, bytes, token)? {
-            return Ok(taken);
+        match otherwise(part) {
+            Some((test, other)) => {
+                if !holds(test, most, self.levels) {
+                    return Ok(Some(false));
+                }
+                push_all(&mut self.stack, other, most, self.levels)?;
+                Ok(None)
+            }
+            None => Ok(Some(false)),
         }
     }
+
+    // A step with what is wanted on top.
+    fn step(&mut self, bytes: &[u8], token: Token) -> Result<Option<bool>, Mem>
+        ensures { IfOk result (λ o. Stepped self.old.levels (stacked self.old.stack.items)
+            (word_of bytes.now token) self.new.levels (stacked self.new.stack.items) o) }
+    {
+        match self.stack.pop() {
+            None => Ok(Some(false)),
+            Some((wanted, number)) => match wanted {
+                Wanted::A(part, _) => self.step_part(bytes, token, part, number),
+                Wanted::Level(change) => {
+                    self.levels = changed(change, self.levels, number)?;
+                    Ok(None)
+                }
+                _ => Ok(Some(is_wanted(bytes, token, wanted))),
+            },
+        }
+    }
+
+    // Takes the token, where it may stand next; what is wanted behind it is open then.
+    fn take(&mut self, bytes: &[u8], token: Token) -> Result<bool, Mem>
+        ensures { IfOk result (λ b. Taken self.old.levels (stacked self.old.stack.items)
+            (word_of bytes.now token) self.new.levels (stacked self.new.stack.items) b) }
+    {
+        loop {
+            if let Some(taken) = self.step(bytes, token)? {
+                return Ok(taken);
+            }
+        }
+    }
 }
 
-/// The number of the first word that is wrong by the table, or that of the words, where only the end is missing; `None` where the
-/// words follow it. It goes over the tokens once, and takes no more of the stack the deeper they are nested. Want of memory is the
-/// only error.
+/// The number of the first word with which the words of the tokens begin no file's words any more, or how many there are, where only the
+/// end is missing; `None` where they are a file's words. It goes over the tokens once, and takes no more of the stack the deeper they are
+/// nested. Want of memory is the only error.
 pub fn first_wrong(alloc: Global, bytes: &[u8], tokens: &[Token]) -> Result<Option<usize>, Mem>
-    ensures { IfOk result (λ o. MatchOption o (FollowsTable (words_of bytes.now tokens.now))
-        (λ k. IsFirstWrong FollowsTable (words_of bytes.now tokens.now) k)) }
+    requires { AreTokens bytes.now tokens.now }
+    ensures { IfOk result (λ o. MatchOption o (IsFileWords (words_of bytes.now tokens.now))
+        (λ k. IsFirstWrong IsFileWords (words_of bytes.now tokens.now) k)) }
 {
-    let mut stack = Vec::new(alloc);
-    stack.push(Wanted::A(Part::File))?;
+    spans_are_tokens();
+    let mut walk = Walk {
+        levels: 0,
+        stack: Vec::new(alloc),
+    };
+    walk.stack.push((Wanted::A(Part::File, Limit::Same), 0))?;
     for k in 0..tokens.len() {
-        if !take(&mut stack, bytes, tokens[k])? {
+        if !walk.take(bytes, tokens[k])? {
             return Ok(Some(k));
         }
     }
-    if stack.is_empty() {
+    if walk.stack.is_empty() {
         Ok(None)
     } else {
         Ok(Some(tokens.len()))

@@ -19,8 +19,51 @@ pub(crate) enum Wanted {
     Zero,
     /// A number that is no greater than `MOST_ARITY`.
     Arity,
-    /// The words of this part.
-    A(Part),
+    /// The words of this part, with so many levels.
+    A(Part, Limit),
+    /// No word: what ended here has other levels than what ended last.
+    Level(Change),
+}
+
+/// The most levels of a part.
+#[derive(Clone, Copy)]
+pub(crate) enum Limit {
+    /// As many as what it stands in may have.
+    Same,
+    /// One fewer.
+    Below,
+    /// Those of a file's terms, processes or formulas.
+    OfTerm,
+    OfProcess,
+    OfFormula,
+}
+
+/// The levels of what ended here, by those of what ended last.
+#[derive(Clone, Copy)]
+pub(crate) enum Change {
+    /// It has none, one, two.
+    Nothing,
+    One,
+    Two,
+    /// One more.
+    More,
+    /// As many as the deeper of it and of what ended before.
+    Deepest,
+    /// One more than the deeper.
+    Joined,
+}
+
+/// Whether a part may begin with a word, by the levels that it may have.
+#[derive(Clone, Copy)]
+pub(crate) enum Test {
+    Always,
+    Never,
+    /// It may have a level.
+    HasLevel,
+    /// It may have two.
+    HasRoom,
+    /// It may have one more than what ended last.
+    GoesOn,
 }
 
 /// A part of a file, for which the table has rows. `More..` is what is behind one of a list, or its end.
@@ -48,6 +91,10 @@ pub(crate) enum Part {
     MoreAttributes,
     /// A lemma's mode, if any, and its formula.
     Mode,
+    /// A process.
+    Process,
+    /// What is behind its first sequence.
+    Bars,
     /// A process that is no parallel without parentheses.
     Sequence,
     /// What may be behind the name of a process: its arguments.
@@ -56,10 +103,6 @@ pub(crate) enum Part {
     Then,
     /// What is behind the first branch of a choice.
     Else,
-    /// What is behind a sequence that is no part of another, in no parentheses.
-    Bars,
-    /// The same in parentheses.
-    InnerBars,
     /// The variable that `new` binds.
     NewName,
     /// What is behind the first term of an output or input.
@@ -81,18 +124,24 @@ pub(crate) enum Part {
     /// The terms behind `(`.
     Terms,
     MoreTerms,
+    /// What is behind the first part of a tuple.
+    Pair,
+    /// What is behind another of its parts.
     MoreParts,
-    /// A formula that stands in no parentheses.
+    /// A formula, and what is behind its first side.
+    Equivalence,
+    MoreEquivalence,
+    /// What is behind its second side: no third.
+    Ended,
+    /// The same without `<=>`; without `==>`; without `|`.
+    Implication,
+    MoreImplication,
+    Disjunction,
+    MoreDisjunction,
+    Conjunction,
+    MoreConjunction,
+    /// A formula that no connective without parentheses joins.
     Formula,
-    /// What is behind its first part; its second side, behind `<=>`; what is behind the first part of that.
-    Joined,
-    Second,
-    SecondJoined,
-    /// The same of a formula in parentheses.
-    InnerFormula,
-    InnerJoined,
-    InnerSecond,
-    InnerSecondJoined,
     /// What may be behind `T` or `F`.
     Truth,
     /// An atom that doesn't begin with `T` or `F`.

@@ -27,7 +27,7 @@ use Rattle.sap_read.specs.declared.fault.ReadFault.TheVariants.{Mem, Lex as LexF
 use Rattle.sap_where.specs.declared.told.Told.{Told}
 use Rattle.sap_where.specs.Told.{IsTold, at_its_place}
 use Rattle.sap_where.specs.Parameters.{IsParameter}
-use Rattle.sap_where.specs.Where.{HasPlace, HoldsOnce, StartsFile, at_byte, bytes_have, declarations_have, header_has, offset_of, one_byte, parameters_have}
+use Rattle.sap_where.specs.Where.{HasPlace, HoldsOnce, StartsFile, at_byte, bytes_have, declarations_have, header_has, item_has, offset_of, one_byte, parameters_have}
 use Rattle.sap_where.specs.FileDeclarations.{declared_before}
 use Rattle.sap_where.proofs.DeclaredFiles.{file_declares}
 use Rattle.sap_where.proofs.ParameterFiles.{HasTwo, file_twice}
@@ -122,12 +122,12 @@ header_words z (t ∷ u ∷ v ∷ ts) h =
       },
     )
 
--- neither a fault of bytes nor of a header nor of a parameter nor of a declaration
+-- neither a fault of bytes nor of a header nor of a piece nor of a parameter nor of a declaration
 abbrev is_later : ReadFault → Bool
 is_later Mem = true
 is_later (LexFault f) = false
 is_later Header = false
-is_later (Syntax n) = true
+is_later (Syntax n) = false
 is_later NoProcess = true
 is_later (TwoProcesses n) = true
 is_later (UnknownProcess x) = true
@@ -191,13 +191,13 @@ causes_later bs ss o = (
   ),
 )
 
--- what a refusal for a fault of bytes, for a header, for a parameter or for a declaration says of the bytes
+-- what a refusal for a fault of bytes, for a header, for a piece, for a parameter or for a declaration says of the bytes
 abbrev Tells : List ℕ → Result FileContent ReadFault → Type 0
 Tells z (Ok f) = ⊤
 Tells z (Err Mem) = ⊤
 Tells z (Err (LexFault f)) = IsLexed MOST_FILE_NAME_BYTES 0 1 z (Err f)
 Tells z (Err Header) = (ts : List Token) × AreTokens z ts × ((x : List ℕ) (rest : List Placed) → IsHeader x (placed z ts) rest → ⊥)
-Tells z (Err (Syntax n)) = ⊤
+Tells z (Err (Syntax n)) = (ts : List Token) × AreTokens z ts
 Tells z (Err NoProcess) = ⊤
 Tells z (Err (TwoProcesses n)) = ⊤
 Tells z (Err (UnknownProcess x)) = ⊤
@@ -217,7 +217,7 @@ tells_later : (z : List ℕ) (e : ReadFault) → is_later e ≡ true → Tells z
 tells_later z Mem h = tt
 tells_later z (LexFault f) h = absurd (cc)
 tells_later z Header h = absurd (cc)
-tells_later z (Syntax n) h = tt
+tells_later z (Syntax n) h = absurd (cc)
 tells_later z NoProcess h = tt
 tells_later z (TwoProcesses n) h = tt
 tells_later z (UnknownProcess x) h = tt
@@ -246,7 +246,7 @@ tells_uses (uses.Flawed x w q) p a u = tt
 tells : {z : List ℕ} {o : Result FileContent ReadFault} → IsRead z o → Tells z o
 tells (no_tokens l) = l
 tells (no_header {ts = ts} a n) = (ts, a, n)
-tells (no_item p f) = tt
+tells (no_item {ts = ts} p f) = (ts, p.tokens)
 tells {z = z} (refused {ts = ts} {is = is} {e = e} p a c) =
     let o = clash_from pairs_alone (declarations is) in
     let h : IsLater o (Some e) = subst (λ (q : Option ReadFault). IsLater o q) c (first_later o (causes (bodies is) (statements is) o) (causes_later (bodies is) (statements is) o)) in
@@ -283,16 +283,17 @@ pub place_told : (z : List ℕ) (ts : List Token) (e : ReadFault) (o : Option To
     → ((us : List Token) → AreTokens z us → us ≡ ts) → (e ≡ Header → o ≡ None → StartsFile (words_of z ts))
     → ((x : List ℕ) → e ≡ Parameters x → o ≡ None → (i : ℕ) → HoldsOnce (IsParameter z ts x i))
     → ((x : List ℕ) → e ≡ FunctionClash x → o ≡ None → clash_from pairs_alone (declared_before z ts (length ts)) ≡ Some x → ⊥)
-    → HasPlace e → IsRead z (Err e) → o ≡ None → ⊥
-place_told z ts e o other only starts once clash (bytes_have f) r none = other f refl
-place_told z ts e o other only starts once clash (parameters_have x) r none =
+    → ((line : ℕ) → e ≡ Syntax line → IsRead z (Err (Syntax line)) → o ≡ None → ⊥) → HasPlace e → IsRead z (Err e) → o ≡ None → ⊥
+place_told z ts e o other only starts once clash item (bytes_have f) r none = other f refl
+place_told z ts e o other only starts once clash item (parameters_have x) r none =
     let t = tells r in
     let two = subst (λ (us : List Token). HasTwo z us x) (only t.0 t.1) t.2 in
     once x refl none two.item two.first two.second two.order two.is_first two.is_second
-place_told z ts e o other only starts once clash (declarations_have x) r none =
+place_told z ts e o other only starts once clash item (item_has line) r none = item line refl r none
+place_told z ts e o other only starts once clash item (declarations_have x) r none =
     let t = tells r in
     clash x refl none (subst (λ (us : List Token). clash_from pairs_alone (declared_before z us (length us)) ≡ Some x) (only t.0 t.1) t.2)
-place_told z ts e o other only starts once clash header_has r none =
+place_told z ts e o other only starts once clash item header_has r none =
     let t = tells r in
     let same = only t.0 t.1 in
     let h = header_words z ts (starts refl none) in
@@ -302,5 +303,6 @@ place_told z ts e o other only starts once clash header_has r none =
 pub tokens_told : (z : List ℕ) (e : ReadFault) → ((f : Lex) → e ≡ LexFault f → ⊥) → ((us : List Token) → AreTokens z us → ⊥) → HasPlace e → IsRead z (Err e) → ⊥
 tokens_told z e other none (bytes_have f) r = other f refl
 tokens_told z e other none header_has r = let t = tells r in none t.0 t.1
+tokens_told z e other none (item_has line) r = let t = tells r in none t.0 t.1
 tokens_told z e other none (parameters_have x) r = let t = tells r in none t.0 t.1
 tokens_told z e other none (declarations_have x) r = let t = tells r in none t.0 t.1

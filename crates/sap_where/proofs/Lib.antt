@@ -15,7 +15,6 @@ pub mod Positions
 pub mod OnePlace
 pub mod Nowhere
 pub mod PlacesByHand
-pub mod Pieces
 pub mod ItemPlace
 pub mod NextUse
 pub mod Telling

@@ -6,11 +6,9 @@ use Rattle.sap_grammar.specs.Words.{words_of}
 use Rattle.sap_read.specs.Files.{AreTokens}
 use Rattle.sap_read.specs.declared.fault.ReadFault.{ReadFault}
 use Rattle.sap_read.specs.declared.fault.ReadFault.TheVariants.{Lex as LexFault, Header, Syntax, TwoProcesses, UnknownProcess, DuplicateName, FunctionClash, Parameters}
-use Rattle.sap_where.proofs.OnePlace.{one_wrong}
 use Rattle.sap_where.specs.declared.find.Beginning.TheVariants.{Process}
 use Rattle.sap_where.specs.declared.place.Stretch.{Stretch}
-use Rattle.sap_expect.specs.FileTable.{FollowsTable}
-use Rattle.sap_where.specs.Pieces.{CanBeOf}
+use Rattle.sap_expect.specs.FileWords.{IsFileWords}
 use Rattle.sap_where.specs.Uses.{IsUse}
 use Rattle.sap_terms.specs.Signature.{pairs_alone}
 use Rattle.sap_grammar.specs.Signatures.{clash_from}
@@ -18,7 +16,6 @@ use Rattle.sap_where.specs.FileDeclarations.{IsClashAt, declared_before}
 use Rattle.sap_where.specs.Parameters.{IsParameter}
 use Rattle.sap_where.proofs.Clashes.{none_clashes}
 use Rattle.sap_where.specs.Where.{BeginsAt, HoldsOnce, IsRepeatedAt, IsSecond, IsTakenAt, IsTakenNowhere, IsWhere, StartsFile, at_byte, at_declaration, at_header, at_item, at_name, at_parameter, at_process, at_use, offset_of, only_statement, second_definition, second_statement}
-use Rattle.sap_expect.specs.FirstWrong.{IsFirstWrong}
 
 -- the tokens of the bytes
 abbrev pub AreOnly : List ℕ → List Token → Type 0
@@ -45,16 +42,9 @@ pub name_nowhere : (z : List ℕ) (ts : List Token) (x : List ℕ) → AreOnly z
 name_nowhere z ts x only h s (at_name {ts = us} {k = k} a w e) =
     taken_nowhere z ts x k h (subst (λ (vs : List Token). IsTakenAt z vs x k) (only us a) w)
 
-pub item_nowhere : (z : List ℕ) (ts : List Token) → AreOnly z ts → FollowsTable (words_of z ts) → (line : ℕ) (s : Stretch) → IsWhere z (Syntax line) s → ⊥
-item_nowhere z ts only h line s (at_item {ts = us} a w b e) =
-    w.isnt (subst (λ (vs : List Token). FollowsTable (words_of z vs)) (sym (only us a)) h)
-
--- where the only wrong word can't be the fault
-pub item_elsewhere : (z : List ℕ) (ts : List Token) (line k : ℕ) → AreOnly z ts → IsFirstWrong FollowsTable (words_of z ts) k → (CanBeOf z ts line k → ⊥) → (s : Stretch) → IsWhere z (Syntax line) s → ⊥
-item_elsewhere z ts line k only w never s (at_item {ts = us} {k = j} a v b e) =
-    let v' = subst (λ (vs : List Token). IsFirstWrong FollowsTable (words_of z vs) j) (only us a) v in
-    let b' = subst (λ (vs : List Token). CanBeOf z vs line j) (only us a) b in
-    never (subst (λ (n : ℕ). CanBeOf z ts line n) (one_wrong FollowsTable (words_of z ts) j k v' w) b')
+pub item_nowhere : (z : List ℕ) (ts : List Token) → AreOnly z ts → IsFileWords (words_of z ts) → (line : ℕ) (s : Stretch) → IsWhere z (Syntax line) s → ⊥
+item_nowhere z ts only h line s (at_item {ts = us} a w e) =
+    w.isnt (subst (λ (vs : List Token). IsFileWords (words_of z vs)) (sym (only us a)) h)
 
 pub use_nowhere : (z : List ℕ) (ts : List Token) (x : List ℕ) → AreOnly z ts → ((i : ℕ) → IsUse z ts x i → ⊥) → (s : Stretch) → IsWhere z (UnknownProcess x) s → ⊥
 use_nowhere z ts x only h s (at_use {ts = us} {k = k} a w e) =
@@ -71,7 +61,7 @@ clash_nowhere z ts x only h s (at_declaration {ts = us} {k = k} a w e) =
 
 pub other_nowhere : (z : List ℕ) (e : ReadFault) → ((f : Lex) → e ≡ LexFault f → ⊥) → ((n : ℕ) → e ≡ Syntax n → ⊥) → ((x : List ℕ) → e ≡ FunctionClash x → ⊥) → (e ≡ Header → ⊥) → ((n : ℕ) → e ≡ TwoProcesses n → ⊥) → ((x : List ℕ) → e ≡ UnknownProcess x → ⊥) → ((x : List ℕ) → e ≡ Parameters x → ⊥) → ((x : List ℕ) → e ≡ DuplicateName x → ⊥) → (s : Stretch) → IsWhere z e s → ⊥
 other_nowhere z e a n q b c u p d s (at_byte o lt f) = a _ refl
-other_nowhere z e a n q b c u p d s (at_item t w g f) = n _ refl
+other_nowhere z e a n q b c u p d s (at_item t w f) = n _ refl
 other_nowhere z e a n q b c u p d s (at_header t w f) = b refl
 other_nowhere z e a n q b c u p d s (at_process t w f) = c _ refl
 other_nowhere z e a n q b c u p d s (at_name t w f) = d _ refl
@@ -82,7 +72,7 @@ other_nowhere z e a n q b c u p d s (at_declaration t w f) = q _ refl
 pub tokens_nowhere : (z : List ℕ) (e : ReadFault) → ((f : Lex) → e ≡ LexFault f → ⊥) → ((us : List Token) → AreTokens z us → ⊥) → (s : Stretch) → IsWhere z e s → ⊥
 tokens_nowhere z e a none s (at_byte o lt f) = a _ refl
 tokens_nowhere z e a none s (at_header t w f) = none _ t
-tokens_nowhere z e a none s (at_item t w g f) = none _ t
+tokens_nowhere z e a none s (at_item t w f) = none _ t
 tokens_nowhere z e a none s (at_process t w f) = none _ t
 tokens_nowhere z e a none s (at_name t w f) = none _ t
 tokens_nowhere z e a none s (at_use t w f) = none _ t

@@ -7,7 +7,7 @@ use Rattle.sap_read.specs.Files.{AreTokens}
 use Rattle.sap_read.specs.declared.fault.ReadFault.{ReadFault}
 use Rattle.sap_where.specs.declared.find.Beginning.TheVariants.{Process}
 use Rattle.sap_where.specs.declared.place.Stretch.{Stretch}
-use Rattle.sap_expect.specs.FileTable.{FollowsTable}
+use Rattle.sap_expect.specs.FileWords.{IsFileWords}
 use Rattle.sap_where.specs.Uses.{IsUse}
 use Rattle.sap_where.specs.Where.{BeginsAt, HoldsOnce, IsFirst, IsRepeatedAt, IsSecond, IsTakenAt, IsWhere, StartsFile, at_byte, at_declaration, at_header, at_item, at_name, at_parameter, at_process, at_use, one_byte, only_statement, second_definition, second_statement, stretch_at}
 use Rattle.sap_expect.specs.FirstWrong.{GoOn, IsFirstWrong}
@@ -64,10 +64,10 @@ one_place_is z e s t only (at_header {ts = ts} {k = j} a w f) (at_header {ts = u
     let v' = subst (λ (us : List Token). IsFirstWrong StartsFile (words_of z us) k) same v in
     let n = one_wrong StartsFile (words_of z ts) j k w v' in
     f ∙ (ap (λ (k : ℕ). stretch_at ts k) n ∙ (ap (λ (us : List Token). stretch_at us k) (sym same) ∙ sym g))
-one_place_is z e s t only (at_item {ts = ts} {k = j} a w c f) (at_item {ts = us} {k = k} b v d g) =
+one_place_is z e s t only (at_item {ts = ts} {k = j} a w f) (at_item {ts = us} {k = k} b v g) =
     let same = only ts us a b in
-    let v' = subst (λ (us : List Token). IsFirstWrong FollowsTable (words_of z us) k) same v in
-    let n = one_wrong FollowsTable (words_of z ts) j k w v' in
+    let v' = subst (λ (us : List Token). IsFirstWrong IsFileWords (words_of z us) k) same v in
+    let n = one_wrong IsFileWords (words_of z ts) j k w v' in
     f ∙ (ap (λ (k : ℕ). stretch_at ts k) n ∙ (ap (λ (us : List Token). stretch_at us k) (sym same) ∙ sym g))
 one_place_is z e s t only (at_process {ts = ts} {k = j} a w f) (at_process {ts = us} {k = k} b v g) =
     let same = only ts us a b in

@@ -3,8 +3,7 @@ use Rattle.std.proofs.Common.{◌≡◌, ◌≤◌, ◌<◌, ◌+◌, ℕ, true,
 use Rattle.std.specs.Prelude.{codes}
 use Rattle.sap_where.specs.declared.find.Beginning.TheVariants.{Definition, Statement}
 use Rattle.sap_where.specs.declared.place.Position.{Position}
-use Rattle.sap_where.specs.PlaceExamples.{IsQ, at, ended_header, endless, endless_tokens, nameless_header, once_tokens, second_byte, second_line, stated, stated_tokens, stretch, three_lines, three_lines_tokens, twice, twice_tokens, two_lines}
-use Rattle.sap_where.specs.Pieces.{BeginsPiece, CanBeOf, IsOnLine, IsPieceOf, of_end, of_piece}
+use Rattle.sap_where.specs.PlaceExamples.{IsQ, at, ended_header, nameless_header, once_tokens, second_byte, second_line, stated, stated_tokens, stretch, twice, twice_tokens, two_lines}
 use Rattle.sap_where.specs.Positions.{IsFeed, IsPlaceText, IsPosition, LineBegins, LineEnds}
 use Rattle.sap_where.specs.Where.{BeginsAt, IsTakenAt, StartsFile, only_statement, second_definition, second_statement}
 use Rattle.sap_expect.specs.FirstWrong.{IsFirstWrong}
@@ -138,56 +137,6 @@ not_before h =
     let e : 4 ≡ 0 = one_taken twice twice_tokens (codes "P") 4 0 again h in
     absurd (omega (arith, e))
 
-third : (i : ℕ) → BeginsPiece three_lines three_lines_tokens i → i < 8 → i ≡ 3
-third zero b lt = absurd (omega (arith, b.behind))
-third (suc zero) b lt = absurd (omega (arith, b.behind))
-third (suc (suc zero)) b lt = absurd (omega (arith, b.behind))
-third (suc (suc (suc zero))) b lt = refl
-third (suc (suc (suc (suc zero)))) b lt = absurd (never b.is)
-  where
-    never : false ≡ true → ⊥
-    never e = absurd (cc)
-third (suc (suc (suc (suc (suc zero))))) b lt = absurd (never b.is)
-  where
-    never : false ≡ true → ⊥
-    never e = absurd (cc)
-third (suc (suc (suc (suc (suc (suc zero)))))) b lt = absurd (never b.is)
-  where
-    never : false ≡ true → ⊥
-    never e = absurd (cc)
-third (suc (suc (suc (suc (suc (suc (suc zero))))))) b lt = absurd (never b.is)
-  where
-    never : false ≡ true → ⊥
-    never e = absurd (cc)
-third (suc (suc (suc (suc (suc (suc (suc (suc i)))))))) b lt = absurd (omega (arith, lt))
-
-pub of_second_line : IsPieceOf three_lines three_lines_tokens 2 8
-of_second_line = record {
-  first = 3;
-  order = omega arith;
-  begins = record { behind = omega arith; inside = omega arith; is = refl };
-  on_line = refl;
-  no_other = λ i low high b. none i low high (third i b high);
-}
-  where
-    none : (i : ℕ) → 3 < i → i < 8 → i ≡ 3 → ⊥
-    none i low high e = absurd (omega (arith, low, e))
-
-at_third_or_last : (k : ℕ) → k ≤ 8 → BeginsPiece three_lines three_lines_tokens k → IsOnLine three_lines three_lines_tokens 1 k → ⊥
-at_third_or_last zero le b e = absurd (omega (arith, b.behind))
-at_third_or_last (suc zero) le b e = absurd (omega (arith, b.behind))
-at_third_or_last (suc (suc zero)) le b e = absurd (omega (arith, b.behind))
-at_third_or_last (suc (suc (suc zero))) le b e = absurd (omega (arith, e))
-at_third_or_last (suc (suc (suc (suc zero)))) le b e = absurd (omega (arith, e))
-at_third_or_last (suc (suc (suc (suc (suc zero))))) le b e = absurd (omega (arith, e))
-at_third_or_last (suc (suc (suc (suc (suc (suc zero)))))) le b e = absurd (omega (arith, e))
-at_third_or_last (suc (suc (suc (suc (suc (suc (suc zero))))))) le b e = absurd (omega (arith, e))
-at_third_or_last (suc (suc (suc (suc (suc (suc (suc (suc zero)))))))) le b e = absurd (omega (arith, e))
-at_third_or_last (suc (suc (suc (suc (suc (suc (suc (suc (suc k))))))))) le b e = absurd (omega (arith, le))
-
-pub not_of_first_line : IsPieceOf three_lines three_lines_tokens 1 8 → ⊥
-not_of_first_line h = at_third_or_last h.first h.order h.begins h.on_line
-
 first_definition : (i : ℕ) → BeginsAt twice once_tokens Definition (codes "P") i → i ≡ 0
 first_definition zero b = refl
 first_definition (suc zero) b = absurd (false_is b.is)
@@ -236,51 +185,6 @@ pub not_first_stated : IsTakenAt stated stated_tokens (codes "P") 0 → ⊥
 not_first_stated h =
     let e : 2 ≡ 0 = one_taken stated stated_tokens (codes "P") 2 0 stated_again h in
     absurd (omega (arith, e))
-
-pub of_third_line : IsPieceOf three_lines three_lines_tokens 3 8
-of_third_line = record {
-  first = 8;
-  order = omega arith;
-  begins = record { behind = omega arith; inside = omega arith; is = refl };
-  on_line = refl;
-  no_other = λ i low high b. absurd (omega (arith, low, high));
-}
-
-before_last : (k : ℕ) → k < 9 → IsOnLine three_lines three_lines_tokens 2 k → k < 8
-before_last zero lt e = omega arith
-before_last (suc zero) lt e = omega arith
-before_last (suc (suc zero)) lt e = omega arith
-before_last (suc (suc (suc zero))) lt e = omega arith
-before_last (suc (suc (suc (suc zero)))) lt e = omega arith
-before_last (suc (suc (suc (suc (suc zero))))) lt e = omega arith
-before_last (suc (suc (suc (suc (suc (suc zero)))))) lt e = omega arith
-before_last (suc (suc (suc (suc (suc (suc (suc zero))))))) lt e = omega arith
-before_last (suc (suc (suc (suc (suc (suc (suc (suc zero)))))))) lt e = absurd (omega (arith, e))
-before_last (suc (suc (suc (suc (suc (suc (suc (suc (suc k))))))))) lt e = absurd (omega (arith, lt))
-
-pub not_of_second_line : IsPieceOf three_lines three_lines_tokens 2 9 → ⊥
-not_of_second_line h =
-    let low = before_last h.first h.begins.inside h.on_line in
-    h.no_other 8 low (omega arith) (record { behind = omega arith; inside = omega arith; is = refl })
-
-pub can_be_second : CanBeOf three_lines three_lines_tokens 2 8
-can_be_second = of_piece of_second_line
-
-pub can_be_last : CanBeOf endless endless_tokens 3 7
-can_be_last = of_end refl refl
-
-on_third_line : (k : ℕ) → k ≤ 5 → IsOnLine three_lines three_lines_tokens 3 k → ⊥
-on_third_line zero le e = absurd (omega (arith, e))
-on_third_line (suc zero) le e = absurd (omega (arith, e))
-on_third_line (suc (suc zero)) le e = absurd (omega (arith, e))
-on_third_line (suc (suc (suc zero))) le e = absurd (omega (arith, e))
-on_third_line (suc (suc (suc (suc zero)))) le e = absurd (omega (arith, e))
-on_third_line (suc (suc (suc (suc (suc zero))))) le e = absurd (omega (arith, e))
-on_third_line (suc (suc (suc (suc (suc (suc k)))))) le e = absurd (omega (arith, le))
-
-pub cannot_be_third : CanBeOf three_lines three_lines_tokens 3 5 → ⊥
-cannot_be_third (of_piece p) = on_third_line p.first p.order p.on_line
-cannot_be_third (of_end is line) = absurd (omega (arith, is))
 
 pub behind_equals : IsQ 6
 behind_equals = record { inside = omega arith; is = refl }

@@ -9,7 +9,7 @@ use Rattle.sap_where.specs.declared.told.Told.{Told}
 use Rattle.sap_where.specs.Advice.{advice}
 use Rattle.sap_where.specs.Explained.{bytes_in, IsUseText, unused, used, IsPlaceTold, somewhere, nowhere, IsExplanation, IsSettled, wanting, bytes, header, syntax, no_process, second_process, unknown_name, taken_name, parameter_twice, declared_otherwise}
 use Rattle.sap_where.specs.Positions.{IsPosition, IsPlaceText}
-use Rattle.sap_where.specs.Told.{IsTold, at_its_place, at_a_word, too_deep}
+use Rattle.sap_where.specs.Told.{IsTold, at_its_place, at_a_word}
 use Rattle.sap_where.specs.Where.{IsWhere}
 
 -- what is told of a use, and of none
@@ -42,23 +42,13 @@ settled_place z e t s (at_its_place w n) = (w, n)
 settled_place z _ t wanting (at_a_word ts word is said) = absurd (never_true word.speaks_of)
 settled_place z _ t (bytes f) (at_a_word ts word is said) = absurd (never_true word.speaks_of)
 settled_place z _ t header (at_a_word ts word is said) = absurd (never_true word.speaks_of)
-settled_place z _ t (syntax line other) (at_a_word ts word is said) = absurd (never_true word.speaks_of)
+settled_place z _ t (syntax line) (at_a_word ts word is said) = absurd (never_true word.speaks_of)
 settled_place z _ t no_process (at_a_word ts word is said) = absurd (never_true word.speaks_of)
 settled_place z _ t (second_process line) (at_a_word ts word is said) = absurd (never_true word.speaks_of)
 settled_place z _ t (unknown_name name) (at_a_word ts word is said) = absurd (never_true word.speaks_of)
 settled_place z _ t (taken_name name) (at_a_word ts word is said) = absurd (never_true word.speaks_of)
 settled_place z _ t (parameter_twice name) (at_a_word ts word is said) = absurd (never_true word.speaks_of)
 settled_place z _ t (declared_otherwise name) (at_a_word ts word is said) = absurd (never_true word.speaks_of)
-settled_place z _ t wanting (too_deep kind ts follows k can is said) = cc (kind)
-settled_place z _ t (bytes f) (too_deep kind ts follows k can is said) = cc (kind)
-settled_place z _ t header (too_deep kind ts follows k can is said) = cc (kind)
-settled_place z _ t (syntax line other) (too_deep kind ts follows k can is said) = absurd (other (record { tokens = _; are = ts; follow = follows }))
-settled_place z _ t no_process (too_deep kind ts follows k can is said) = cc (kind)
-settled_place z _ t (second_process line) (too_deep kind ts follows k can is said) = cc (kind)
-settled_place z _ t (unknown_name name) (too_deep kind ts follows k can is said) = cc (kind)
-settled_place z _ t (taken_name name) (too_deep kind ts follows k can is said) = cc (kind)
-settled_place z _ t (parameter_twice name) (too_deep kind ts follows k can is said) = cc (kind)
-settled_place z _ t (declared_otherwise name) (too_deep kind ts follows k can is said) = cc (kind)
 
 unused_text : (z : List ℕ) (o : Option Stretch) (x : List ℕ) → o ≡ None → IsUseText z o x → x ≡ []
 unused_text z None _ n unused = refl

@@ -8,7 +8,7 @@ use Rattle.sap_where.specs.declared.place.Stretch.{Stretch}
 use Rattle.sap_where.specs.declared.told.Told.{Told}
 use Rattle.sap_where.specs.Advice.{advice}
 use Rattle.sap_where.specs.Positions.{IsPosition, IsPlaceText}
-use Rattle.sap_where.specs.Told.{IsTold, KeepsToTable}
+use Rattle.sap_where.specs.Told.{IsTold}
 use Rattle.sap_where.specs.Where.{IsWhere}
 
 -- the bytes of a stretch
@@ -35,13 +35,12 @@ pub record IsExplanation (z : List ℕ) (e : ReadFault) (t : List ℕ) : Type 0 
   pub is_place : IsPlaceTold z e place
   pub text : t ≡ place ++ (advice e ++ (10 ∷ []))
 
--- the causes whose place is defined by the words of the file, so that one place is told, or none; that of a piece that is no item is so
--- unless the words of the file follow the table, where it is nested too deep
+-- the causes whose place is defined by the words of the file, so that one place is told, or none
 pub data IsSettled (z : List ℕ) : ReadFault → Type 0 where
   wanting : IsSettled z Mem
   bytes : (f : LexFault) → IsSettled z (Lex f)
   header : IsSettled z Header
-  syntax : (line : ℕ) → (KeepsToTable z → ⊥) → IsSettled z (Syntax line)
+  syntax : (line : ℕ) → IsSettled z (Syntax line)
   no_process : IsSettled z NoProcess
   second_process : (line : ℕ) → IsSettled z (TwoProcesses line)
   unknown_name : (name : List ℕ) → IsSettled z (UnknownProcess name)

@@ -1,5 +1,4 @@
 pub mod Positions
-pub mod Pieces
 pub mod Uses
 pub mod Parameters
 pub mod FileDeclarations

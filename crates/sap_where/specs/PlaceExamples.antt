@@ -67,16 +67,6 @@ three_lines_tokens =
     ∷ on_line 2 20 21
     ∷ on_line 2 21 22 ∷ on_line 2 22 23 ∷ on_line 3 24 27 ∷ []
 
--- a file whose last item ends on its third line, `theory T begin`, `let P=` and `(`, and its tokens
-abbrev pub endless : List ℕ
-endless = codes "theory T begin\nlet P=\n("
-
-abbrev pub endless_tokens : List Token
-endless_tokens =
-    on_line 1 0 6 ∷ on_line 1 7 8 ∷ on_line 1 9 14 ∷ on_line 2 15 18 ∷ on_line 2 19 20
-    ∷ on_line 2 20 21
-    ∷ on_line 3 22 23 ∷ []
-
 -- words in which Q is a parameter, what is behind `=`, `!`, `(` and `else`, a fact, a value that is looked up, and what is behind the
 -- name of a lemma
 abbrev pub many : List ℕ

@@ -9,9 +9,8 @@ use Rattle.sap_read.specs.Files.{AreTokens}
 use Rattle.sap_read.specs.declared.fault.ReadFault.{ReadFault}
 use Rattle.sap_read.specs.declared.fault.ReadFault.TheVariants.{Lex as LexFault, Header, Syntax, TwoProcesses, UnknownProcess, DuplicateName, FunctionClash, Parameters}
 use Rattle.sap_where.specs.declared.place.Stretch.{Stretch}
-use Rattle.sap_expect.specs.FileTable.{FollowsTable}
+use Rattle.sap_expect.specs.FileWords.{IsFileWords}
 use Rattle.sap_expect.specs.FirstWrong.{IsFirstWrong}
-use Rattle.sap_where.specs.Pieces.{CanBeOf}
 use Rattle.sap_where.specs.declared.find.Beginning.{Beginning}
 use Rattle.sap_where.specs.declared.find.Beginning.TheVariants.{Process, Definition, Statement}
 use Rattle.sap_where.specs.FileDeclarations.{IsClashAt}
@@ -103,18 +102,17 @@ pub record IsRepeatedAt (z : List ℕ) (ts : List Token) (x : List ℕ) (k : ℕ
   pub none_before : (i j : ℕ) → i < item → IsSecond (IsParameter z ts x i) j → ⊥
 
 -- the stretch is where this cause stands in the bytes: the byte of a fault of bytes; the word with which what stands before it is no
--- header's beginning any more; the word with which what stands before it is by the table no file's beginning any more, where the line
--- that is told is that of the word's piece; `process` where it stands a second time; a name of a process where it is used first; the
--- name that is taken, behind its item's first word; a parameter where it stands a second time;
--- the first word of the first declaration that clashes
+-- header's beginning any more; the word with which what stands before it is no file's beginning any more; `process` where it stands a
+-- second time; a name of a process where it is used first; the name that is taken, behind its item's first word; a parameter where it
+-- stands a second time; the first word of the first declaration that clashes
 pub data IsWhere (z : List ℕ) : ReadFault → Stretch → Type 0 where
   at_byte : {f : Lex} {at : ℕ} {s : Stretch} → offset_of f ≡ Some at → at < length z
       → s ≡ one_byte at → IsWhere z (LexFault f) s
   at_header : {ts : List Token} {k : ℕ} {s : Stretch} → AreTokens z ts
       → IsFirstWrong StartsFile (words_of z ts) k → s ≡ stretch_at ts k → IsWhere z Header s
   at_item : {ts : List Token} {line k : ℕ} {s : Stretch} → AreTokens z ts
-      → IsFirstWrong FollowsTable (words_of z ts) k → CanBeOf z ts line k
-      → s ≡ stretch_at ts k → IsWhere z (Syntax line) s
+      → IsFirstWrong IsFileWords (words_of z ts) k → s ≡ stretch_at ts k
+      → IsWhere z (Syntax line) s
   at_process : {ts : List Token} {line k : ℕ} {s : Stretch} → AreTokens z ts
       → IsSecond (BeginsAt z ts Process []) k → s ≡ stretch_at ts k
       → IsWhere z (TwoProcesses line) s
@@ -131,5 +129,6 @@ pub data IsWhere (z : List ℕ) : ReadFault → Stretch → Type 0 where
 pub data HasPlace : ReadFault → Type 0 where
   bytes_have : (f : Lex) → HasPlace (LexFault f)
   header_has : HasPlace Header
+  item_has : (line : ℕ) → HasPlace (Syntax line)
   parameters_have : (x : List ℕ) → HasPlace (Parameters x)
   declarations_have : (x : List ℕ) → HasPlace (FunctionClash x)

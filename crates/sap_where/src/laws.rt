@@ -14,10 +14,9 @@ ghost use Rattle.sap_text.specs.declared.fault.Lex.TheVariants.{BadByte};
 ghost use Rattle.sap_where.specs.Where.{IsTakenAt, IsWhere, StartsFile, one_byte, stretch_at};
 ghost use Rattle.sap_expect.specs.FirstWrong.{IsFirstWrong};
 ghost use Rattle.sap_where.specs.Positions.{IsPlaceText, IsPosition, carets, shown, shown_from, shown_to};
-ghost use Rattle.sap_where.specs.PlaceExamples.{IsClash, IsQ, IsTwice, at, ended_header, endless, endless_tokens, few_declared_tokens, many_declared, nameless_header, once_tokens, second_byte, second_line, stated, stated_tokens, stretch, three_lines, three_lines_tokens, twice, twice_tokens, two_lines};
+ghost use Rattle.sap_where.specs.PlaceExamples.{IsClash, IsQ, IsTwice, at, ended_header, few_declared_tokens, many_declared, nameless_header, once_tokens, second_byte, second_line, stated, stated_tokens, stretch, three_lines_tokens, twice, twice_tokens, two_lines};
 ghost use Rattle.sap_where.specs.declared.place.Position.{Position};
 ghost use Rattle.sap_where.specs.declared.place.Stretch.{Stretch};
-ghost use Rattle.sap_where.specs.Pieces.{CanBeOf, IsPieceOf};
 ghost use Rattle.sap_where.specs.FileDeclarations.{IsClashAt, declared_before};
 ghost use Rattle.sap_where.specs.Parameters.{IsParameter, parameter_at};
 ghost use Rattle.sap_where.specs.Explained.{IsExplanation, IsSettled, IsUseText};
@@ -40,8 +39,8 @@ pub fn one_place()
 }
 
 /// A law: small files, where in them is what, and where it isn't: lines and columns, what is shown of a line and of a byte, which word
-/// of a header is the first that is wrong, where a name is defined or stated again, in which piece a word stands, where a name is
-/// used for a process, where a parameter stands twice, and where a declaration clashes.
+/// of a header is the first that is wrong, where a name is defined or stated again, where a name is used for a process, where a parameter
+/// stands twice, and where a declaration clashes.
 pub fn places_by_hand()
     ensures lines { IsPosition two_lines 3 (at 2 1) × IsPosition two_lines 2 (at 1 3)
         × IsPosition two_lines 5 (at 2 3) }
@@ -65,12 +64,6 @@ pub fn places_by_hand()
         × (IsTakenAt twice twice_tokens (codes "P") 0 → ⊥)
         × IsTakenAt twice once_tokens (codes "P") 2 × IsTakenAt stated stated_tokens (codes "P") 2
         × (IsTakenAt stated stated_tokens (codes "P") 0 → ⊥) }
-    ensures pieces { IsPieceOf three_lines three_lines_tokens 2 8
-        × (IsPieceOf three_lines three_lines_tokens 1 8 → ⊥)
-        × IsPieceOf three_lines three_lines_tokens 3 8
-        × (IsPieceOf three_lines three_lines_tokens 2 9 → ⊥) }
-    ensures lines_told { CanBeOf three_lines three_lines_tokens 2 8 × CanBeOf endless endless_tokens 3 7
-        × (CanBeOf three_lines three_lines_tokens 3 5 → ⊥) }
     ensures uses { IsQ 6 × IsQ 10 × IsQ 28 × IsQ 31 }
     ensures no_uses { (IsQ 3 → ⊥) × (IsQ 14 → ⊥) × (IsQ 25 → ⊥) × (IsQ 35 → ⊥) }
     ensures parameters { IsTwice 16 × (IsTwice 3 → ⊥) × (IsTwice 12 → ⊥) × (IsTwice 18 → ⊥) × (IsTwice 27 → ⊥) }

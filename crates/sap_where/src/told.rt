@@ -9,6 +9,7 @@ ghost use Rattle.sap_read.specs.declared.fault.ReadFault.TheVariants.{FunctionCl
 ghost use Rattle.sap_read.specs.Files.{AreTokens, IsRead};
 ghost use Rattle.sap_terms.specs.Signature.{pairs_alone};
 ghost use Rattle.sap_grammar.specs.Signatures.{clash_from};
+ghost use Rattle.sap_expect.specs.FileWords.{IsFileWords};
 ghost use Rattle.sap_where.specs.FileDeclarations.{declared_before};
 ghost use Rattle.sap_where.specs.Parameters.{IsParameter};
 ghost use Rattle.sap_where.specs.Told.{IsTold};
@@ -19,6 +20,7 @@ use crate::clash::clash_told;
 use crate::item_place::item_told;
 use crate::place::Stretch;
 use crate::walk::{byte_of, file_tokens, place_in, stretch_at};
+use sap_expect::files_are_their_words;
 use sap_read::ReadFault;
 use sap_spot::word_of;
 use sap_terms::Mem;
@@ -118,10 +120,12 @@ fn told_in(
     ensures clash { IfOk result (λ o. (x : List ℕ) → fault.now ≡ FunctionClash x → o ≡ None
         → clash_from pairs_alone (declared_before bytes.now tokens.now (length tokens.now))
         ≡ Some x → ⊥) }
+    ensures item { IfOk result (λ o. (line : ℕ) → fault.now ≡ Syntax line → o ≡ None
+        → IsFileWords (words_of bytes.now tokens.now)) }
     ensures none { IfOk result (λ o. o ≡ None → (s : Stretch) → IsWhere bytes.now fault.now s → ⊥) }
 {
     match fault {
-        ReadFault::Syntax { line } => item_told(alloc, bytes, tokens, *line),
+        ReadFault::Syntax { .. } => item_told(alloc, bytes, tokens),
         ReadFault::FunctionClash { name } => clash_told(alloc, bytes, tokens, name),
         _ => place_or_word(alloc, bytes, tokens, fault),
     }
@@ -140,8 +144,8 @@ fn byte_told(lex: Lex, size: u64) -> Option<Told>
 }
 
 /// Where in the bytes of a file the cause stands for which they are refused: of a fault of bytes the byte; without a header the
-/// first word that is wrong in one, or the end of the last word; of a piece that is no item the first word that is wrong in the file, by
-/// the table of its words, or the end of the last word; of a second process its `process`; of a name of a process that isn't defined its
+/// first word that is wrong in one, or the end of the last word; of a piece that is no item the first word with which no file goes on, or
+/// the end of the last word; of a second process its `process`; of a name of a process that isn't defined its
 /// first use; of a name that is taken the second definition's name, or that of the second restriction or lemma, or of the only one; of a
 /// parameter that stands twice the second, in the first definition that has it twice; of a declaration that clashes its first word; of a
 /// flaw of the process, a lock, a fault of a formula or a limit the word that `sap_spot` finds. `None`, where nothing of this is found in
@@ -156,6 +160,7 @@ pub fn place_of(alloc: Global, bytes: &[u8], fault: &ReadFault) -> Result<Option
     ensures told { HasPlace fault.now → IsRead bytes.now (Err fault.now)
         → IfOk result (λ o. o ≡ None → ⊥) }
 {
+    files_are_their_words();
     if let ReadFault::Lex(lex) = fault {
         return Ok(byte_told(*lex, bytes.len() as u64));
     }

@@ -26,6 +26,9 @@ returns-in-Some-clause-told c =
     c.in_default.not-Lex only (rw c.as_slice.ensures.value at c.told_in.ensures.header)
     (rw c.as_slice.ensures.value at c.told_in.ensures.once)
     (rw c.as_slice.ensures.value at c.told_in.ensures.clash)
+    (rw c.as_slice.ensures.value at c.told_in.ensures.item)
+    (rw c.in-Some.is at c.in_ok-tokens.ensures.are)
+    (λ ts line. c.files_are_their_words.ensures.refused c.args.bytes.now ts line)
 
 pub returns-in-None-clause-none : goal.returns-in-None-clause-none
 returns-in-None-clause-none c = λ n s.

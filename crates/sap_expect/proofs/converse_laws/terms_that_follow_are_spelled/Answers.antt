@@ -1,5 +1,0 @@
-use Rattle.sap_expect.proofs.SpelledProcesses.{args_spelled, term_spelled}
-use Rattle.sap_expect.proofs.converse_laws.terms_that_follow_are_spelled.Goals as goal
-
-pub returns : goal.returns
-returns c = record { term = term_spelled; arguments = args_spelled }
