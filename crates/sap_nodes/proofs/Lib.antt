@@ -1,0 +1,13 @@
+pub mod Least
+pub mod FirstNodes
+pub mod HeadMembers
+pub mod Decisions
+pub mod ClashNodes
+pub mod FlawsAtNodes
+pub mod NodesByHand
+pub mod SearchLemmas
+pub mod UnboundLemmas
+pub mod UnboundTold
+pub mod ReboundTold
+pub mod SignedTold
+pub mod NodesOfFlaws

@@ -1,0 +1,4 @@
+pub mod HeadNodes
+pub mod FlawNodes
+pub mod NodeExamples
+pub mod code

@@ -1,0 +1,19 @@
+//! Of which node of a head a flaw speaks.
+#![tactic(auto)]
+
+mod bound;
+mod finding;
+mod flawed;
+mod laws;
+mod part;
+mod signed;
+mod trail;
+mod unbound;
+
+pub use bound::rebound_node;
+pub use finding::word_node;
+pub use flawed::flaw_node;
+pub use laws::{nodes_by_hand, nodes_of_flaws};
+pub use part::Part;
+pub use signed::signed_node;
+pub use unbound::unbound_node;
