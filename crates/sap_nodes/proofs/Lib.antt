@@ -11,3 +11,7 @@ pub mod UnboundTold
 pub mod ReboundTold
 pub mod SignedTold
 pub mod NodesOfFlaws
+pub mod MetFacts
+pub mod KeptFacts
+pub mod ClashTold
+pub mod WayBefore

@@ -4,3 +4,4 @@ pub mod Searches
 pub mod Trails
 pub mod Rebound
 pub mod Signs
+pub mod Clashes

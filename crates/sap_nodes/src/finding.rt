@@ -130,7 +130,7 @@ fn in_term(sig: &Signature, which: Flaw, part: Part, t: &Term, search: &mut Sear
 
 #[cycle(nodes)]
 #[tactic(auto, using(crate::proofs::SearchLemmas::search_laws))]
-fn in_terms(sig: &Signature, which: Flaw, part: Part, ts: &TermList, search: &mut Search)
+pub(crate) fn in_terms(sig: &Signature, which: Flaw, part: Part, ts: &TermList, search: &mut Search)
     ensures { search.new ≡ after (is_such sig.now which) search.old (trees_nodes part (trees_of ts.now)) }
 {
     for k in 0..ts.len() {

@@ -2,6 +2,7 @@
 #![tactic(auto)]
 
 mod bound;
+mod clash;
 mod finding;
 mod flawed;
 mod laws;
@@ -11,6 +12,7 @@ mod trail;
 mod unbound;
 
 pub use bound::rebound_node;
+pub use clash::clash_node;
 pub use finding::word_node;
 pub use flawed::flaw_node;
 pub use laws::{nodes_by_hand, nodes_of_flaws};
