@@ -15,3 +15,6 @@ pub mod MetFacts
 pub mod KeptFacts
 pub mod ClashTold
 pub mod WayBefore
+pub mod LastNames
+pub mod FullTold
+pub mod FullLaws

@@ -84,7 +84,7 @@ last_told g before s front v true e c d = told (back_got front (binder v ∷ [])
 
 -- as many nodes stand for a term as it has
 mutual
-  counted : (a : Part) (t : Tree) → length (tree_nodes a t) ≡ node_count t
+  pub counted : (a : Part) (t : Tree) → length (tree_nodes a t) ≡ node_count t
   counted a (tree.variable v) = refl
   counted a (tree.public n) = refl
   counted a (tree.fresh k) = refl

@@ -198,7 +198,7 @@ new_binders s p known vs e h d n =
 known_behind : (scope : List Var) (ns : List Node) (vs : List Var) → flat_map vars_of ns ≡ vs → (met_all Taken (trail_of scope 0) ns).known ≡ scope ++ vs
 known_behind scope ns vs h = ap (λ (a : Trail). a.known) (behind_left scope ns 0 (omega arith)) ∙ ap (λ us. scope ++ us) h
 
-rule_variables : (l e r : List Fact) → flat_map vars_of (facts_nodes Pattern l ++ (facts_nodes Shown e ++ facts_nodes Given r)) ≡ facts_vars (l ++ (e ++ r))
+pub rule_variables : (l e r : List Fact) → flat_map vars_of (facts_nodes Pattern l ++ (facts_nodes Shown e ++ facts_nodes Given r)) ≡ facts_vars (l ++ (e ++ r))
 rule_variables l e r =
     flat_map-append vars_of (facts_nodes Pattern l) (facts_nodes Shown e ++ facts_nodes Given r)
     ∙ ap (λ vs. vs ++ flat_map vars_of (facts_nodes Shown e ++ facts_nodes Given r)) (facts_variables Pattern l)

@@ -92,7 +92,7 @@ passed p (y ∷ ys) x c = by (p y) refl c (passed p ys x) where
   by true e k later = elim (cons_cases y (filter p ys) x k) as (λ _. p x ≡ true) [ inl d ↦ subst (λ z. p z ≡ true) d e | inr m ↦ later m ]
 
 -- where one is found, nothing changes any more
-stays : (b : How) (known : List Var) (at : ℕ) (ns : List Node)
+pub stays : (b : How) (known : List Var) (at : ℕ) (ns : List Node)
     → (met_all b (record { known = known; search = record { at = at; found = true } }) ns).search ≡ record { at = at; found = true }
 stays b known at [] = refl
 stays b known at (variable v ∷ ns) = stays b (if is_bound b v known then known ++ v ∷ [] else known) at ns

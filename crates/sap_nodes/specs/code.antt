@@ -5,3 +5,4 @@ pub mod Trails
 pub mod Rebound
 pub mod Signs
 pub mod Clashes
+pub mod Full

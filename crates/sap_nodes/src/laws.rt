@@ -1,12 +1,18 @@
 // Laws of the definitions, as contracts of functions that do nothing.
-ghost use Rattle.std.specs.Prelude.{◌≡◌, ℕ, List, []};
+ghost use Rattle.std.specs.Prelude.{◌≡◌, ◌≤◌, ℕ, List, [], Option, Some, length, slice_get};
 ghost use Rattle.sap_terms.specs.Signature.{Sig, pairs_alone};
+ghost use Rattle.sap_terms.specs.declared.limits.TheConstants.{MOST_SCOPE_NAMES};
+ghost use Rattle.sap_terms.specs.declared.var.Var.{Var};
 ghost use Rattle.sap_process.specs.Flaws.{HasFlaw};
-ghost use Rattle.sap_process.specs.Sites.{Site};
+ghost use Rattle.sap_process.specs.Proc.{Proc};
+ghost use Rattle.sap_process.specs.Sites.{Site, sites_in};
 ghost use Rattle.sap_process.specs.declared.flaw.Flaw.{Flaw};
-ghost use Rattle.sap_process.specs.declared.flaw.Flaw.TheVariants.{BadFunction, ReservedVar, ReservedFact, FactClash, PatternDestructor, Unbound, Rebound, SortClash};
+ghost use Rattle.sap_process.specs.declared.flaw.Flaw.TheVariants.{BadFunction, ReservedVar, ReservedFact, FactClash, PatternDestructor, Unbound, Rebound, SortClash, ScopeFull};
 ghost use Rattle.sap_nodes.specs.FlawNodes.{IsNodeOf, IsOfHead};
+ghost use Rattle.sap_nodes.specs.FullScope.{IsFilling};
 ghost use Rattle.sap_nodes.specs.NodeExamples.{SpeaksOf, c_and_x, at_root, destructors, unknown_symbols, two_variables, with_public, two_signs, twice_reserved, reserved_facts, clashing, found_again};
+
+use sap_process::{ScopeBelow, places_are_by_path};
 
 /// A law: a flaw speaks of one node of a head alone; where a place has a flaw, there is such a node at its head; and where there is
 /// one, the place has the flaw.
@@ -43,3 +49,17 @@ pub fn nodes_by_hand()
     ensures binder { IsNodeOf pairs_alone [] (at_root c_and_x found_again) Rebound 1 }
     ensures not_key { ¬ IsNodeOf pairs_alone [] (at_root c_and_x found_again) Rebound 0 }
 {}
+
+/// A law: on the way to a place in whose scope more names and locks are than may be one place alone has room and hands down too much,
+/// where no more than may be are in scope at the root; and of its head one name, or its lock, is the first too many. Where there is
+/// one on the way to a place, too many are in scope there.
+pub fn filled_scopes()
+    ensures one { (scope : List Var) (p : Proc) (path : List ℕ) (d k : ℕ) (o r : Option ℕ) → IsFilling scope p path d o → IsFilling scope p path k r
+        → (d ≡ k) × (o ≡ r) }
+    ensures some { (g : Sig) (before : List Site) (scope : List Var) (p : Proc) (k : ℕ) (s : Site) → slice_get (sites_in scope p) k ≡ Some s
+        → length scope ≤ MOST_SCOPE_NAMES → HasFlaw g before s ScopeFull → (d : ℕ) × (o : Option ℕ) × IsFilling scope p s.path d o }
+    ensures place { (g : Sig) (before : List Site) (scope : List Var) (p : Proc) (k : ℕ) (s : Site) (d : ℕ) (o : Option ℕ)
+        → slice_get (sites_in scope p) k ≡ Some s → IsFilling scope p s.path d o → HasFlaw g before s ScopeFull }
+{
+    places_are_by_path::<ScopeBelow>();
+}

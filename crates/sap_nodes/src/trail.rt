@@ -18,13 +18,15 @@ use std::alloc::Global;
 
 // How variables are met: where they are taken, each binds its name for what stands behind it; on the other sides of an embedded
 // rule those do that are first written `$x`, and any other that isn't known is looked for; in what is evaluated before anything is
-// bound none does, and each that isn't known is looked for; and of those that are signed, each that isn't of its binder's sort.
+// bound none does, and each that isn't known is looked for; of those that are signed, each that isn't of its binder's sort; and last,
+// each binds its name that isn't known, and is looked for where so many are.
 #[derive(Clone, Copy)]
 pub(crate) enum How {
     Taken,
     Ruled,
     Used,
     Signed,
+    Last(u64),
 }
 
 // The variables that are known, and where the search stands.
@@ -89,6 +91,7 @@ fn is_bound(how: How, v: &Var, known: &Named<Var>) -> bool
         How::Taken => true,
         How::Ruled => !knows(known, &v.name) && v.sort == Sort::Pub,
         How::Used | How::Signed => false,
+        How::Last(_) => !knows(known, &v.name),
     }
 }
 
@@ -101,6 +104,7 @@ fn is_free(how: How, v: &Var, known: &Named<Var>) -> bool
         How::Ruled => !knows(known, &v.name) && v.sort != Sort::Pub,
         How::Used => !knows(known, &v.name),
         How::Signed => has_other_sort(known, v),
+        How::Last(room) => !knows(known, &v.name) && known.len() == room,
     }
 }
 

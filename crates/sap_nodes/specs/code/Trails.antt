@@ -1,5 +1,5 @@
 -- A search for a variable by those that are known, as the code makes it.
-use Rattle.std.specs.Prelude.{Bool, true, false, not, ◌&&◌, List, [], ◌∷◌, ◌++◌, if◌then◌else◌}
+use Rattle.std.specs.Prelude.{Bool, true, false, not, ◌&&◌, nat_eq, length, List, [], ◌∷◌, ◌++◌, if◌then◌else◌}
 use Rattle.sap_terms.specs.Same.{same_sort}
 use Rattle.sap_terms.specs.Variables.{is_known}
 use Rattle.sap_terms.specs.declared.var.Sort.TheVariants.{Pub}
@@ -13,7 +13,7 @@ use Rattle.sap_nodes.specs.HeadNodes.{Node, tree_nodes, fact_nodes, facts_nodes}
 use Rattle.sap_nodes.specs.code.Searches.{visited}
 use Rattle.sap_nodes.specs.declared.part.Part.TheVariants.{Pattern, Shown, Given}
 use Rattle.sap_nodes.specs.declared.trail.How.{How}
-use Rattle.sap_nodes.specs.declared.trail.How.TheVariants.{Taken, Ruled, Used, Signed}
+use Rattle.sap_nodes.specs.declared.trail.How.TheVariants.{Taken, Ruled, Used, Signed, Last}
 use Rattle.sap_nodes.specs.declared.trail.Trail.{Trail}
 
 -- the variable binds its name for what stands behind it, where these are known
@@ -22,6 +22,7 @@ is_bound Taken v known = true
 is_bound Ruled v known = not (is_known (var_names known) v.name) && same_sort v.sort Pub
 is_bound Used v known = false
 is_bound Signed v known = false
+is_bound (Last room) v known = not (is_known (var_names known) v.name)
 
 -- it is looked for
 abbrev pub is_free : How → Var → List Var → Bool
@@ -29,6 +30,7 @@ is_free Taken v known = false
 is_free Ruled v known = not (is_known (var_names known) v.name) && not (same_sort v.sort Pub)
 is_free Used v known = not (is_known (var_names known) v.name)
 is_free Signed v known = has_other_sort known v
+is_free (Last room) v known = not (is_known (var_names known) v.name) && nat_eq (length known) room
 
 -- one node more is met
 abbrev pub met : How → Trail → Node → Trail
