@@ -18,3 +18,4 @@ pub mod WayBefore
 pub mod LastNames
 pub mod FullTold
 pub mod FullLaws
+pub mod FullByHand

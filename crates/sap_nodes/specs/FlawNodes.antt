@@ -122,12 +122,6 @@ IsOfWords ReservedFact = Unit {0}
 IsOfWords PatternDestructor = Unit {0}
 IsOfWords _ = ⊥
 
--- those whose node a call finds: all but those of facts that clash and of scopes that are full
-abbrev pub IsFound : Flaw → Type 0
-IsFound FactClash = ⊥
-IsFound ScopeFull = ⊥
-IsFound _ = Unit {0}
-
 -- the number is that of the node of which the flaw speaks, and from the greatest u64 on that; there is none where it speaks of no node
 abbrev pub IsTold : Sig → List Site → Site → Flaw → Option ℕ → Type 0
 IsTold g before s w None = (k : ℕ) → ¬ IsNodeOf g before s w k

@@ -1,5 +1,5 @@
 -- Small heads of which a flaw could speak at two nodes, to try by hand of which it does.
-use Rattle.std.specs.Prelude.{ℕ, true, codes, List, [], ◌∷◌}
+use Rattle.std.specs.Prelude.{ℕ, replicate, true, codes, List, [], ◌∷◌}
 use Rattle.sap_terms.specs.AdversaryFacts.{linear}
 use Rattle.sap_terms.specs.Equations.{app1, app2, fst_name, pair_name}
 use Rattle.sap_terms.specs.Signature.{pairs_alone}
@@ -8,7 +8,7 @@ use Rattle.sap_terms.specs.declared.fact.Fact.{Fact}
 use Rattle.sap_terms.specs.declared.var.Sort.{Sort}
 use Rattle.sap_terms.specs.declared.var.Sort.TheVariants.{Msg, Fresh, Pub}
 use Rattle.sap_terms.specs.declared.var.Var.{Var}
-use Rattle.sap_process.specs.Action.{Action, out, receive, event, embedded}
+use Rattle.sap_process.specs.Action.{Action, input, lock, out, receive, event, embedded}
 use Rattle.sap_process.specs.Places.{place}
 use Rattle.sap_process.specs.Proc.{Proc, nil, act, lookup}
 use Rattle.sap_process.specs.Sites.{Site, above_of}
@@ -83,3 +83,25 @@ clashing = embedded (linear (codes "F") (x ∷ []) ∷ []) (linear (codes "F") (
 -- lookup x as x
 abbrev pub found_again : Proc
 found_again = lookup x (var_of (codes "x") Msg) nil nil
+
+-- so many names, all of them a
+abbrev pub many : ℕ → List Var
+many n = replicate n (var_of (codes "a") Msg)
+
+-- u, v and q
+abbrev pub u : Tree
+u = variable (var_of (codes "u") Msg)
+
+abbrev pub v : Tree
+v = variable (var_of (codes "v") Msg)
+
+abbrev pub q : Tree
+q = variable (var_of (codes "q") Msg)
+
+-- in(<u, <v, q>>)
+abbrev pub three_names : Proc
+three_names = act (input (app2 pair_name u (app2 pair_name v q))) nil
+
+-- lock c; in(u)
+abbrev pub locked : Proc
+locked = act (lock c 0) (act (input u) nil)

@@ -1,5 +1,5 @@
 // Laws of the definitions, as contracts of functions that do nothing.
-ghost use Rattle.std.specs.Prelude.{◌≡◌, ◌≤◌, ℕ, List, [], Option, Some, length, slice_get};
+ghost use Rattle.std.specs.Prelude.{◌≡◌, ◌≤◌, ℕ, List, [], ◌∷◌, Option, Some, None, length, slice_get};
 ghost use Rattle.sap_terms.specs.Signature.{Sig, pairs_alone};
 ghost use Rattle.sap_terms.specs.declared.limits.TheConstants.{MOST_SCOPE_NAMES};
 ghost use Rattle.sap_terms.specs.declared.var.Var.{Var};
@@ -10,7 +10,7 @@ ghost use Rattle.sap_process.specs.declared.flaw.Flaw.{Flaw};
 ghost use Rattle.sap_process.specs.declared.flaw.Flaw.TheVariants.{BadFunction, ReservedVar, ReservedFact, FactClash, PatternDestructor, Unbound, Rebound, SortClash, ScopeFull};
 ghost use Rattle.sap_nodes.specs.FlawNodes.{IsNodeOf, IsOfHead};
 ghost use Rattle.sap_nodes.specs.FullScope.{IsFilling};
-ghost use Rattle.sap_nodes.specs.NodeExamples.{SpeaksOf, c_and_x, at_root, destructors, unknown_symbols, two_variables, with_public, two_signs, twice_reserved, reserved_facts, clashing, found_again};
+ghost use Rattle.sap_nodes.specs.NodeExamples.{SpeaksOf, c_and_x, at_root, destructors, unknown_symbols, two_variables, with_public, two_signs, twice_reserved, reserved_facts, clashing, found_again, many, three_names, locked};
 
 use sap_process::{ScopeBelow, places_are_by_path};
 
@@ -63,3 +63,14 @@ pub fn filled_scopes()
 {
     places_are_by_path::<ScopeBelow>();
 }
+
+/// A law: what is the first too many in small processes where so many names are in scope at the root: of 62 the third name of a pattern,
+/// not the second; of 64 a lock, not the name below it; and of 63 that name, not the lock.
+pub fn filled_by_hand()
+    ensures third { IsFilling (many 62) three_names (1 ∷ []) 0 (Some 4) }
+    ensures not_second { ¬ IsFilling (many 62) three_names (1 ∷ []) 0 (Some 3) }
+    ensures lock { IsFilling (many 64) locked (1 ∷ 1 ∷ []) 0 None }
+    ensures not_below { ¬ IsFilling (many 64) locked (1 ∷ 1 ∷ []) 1 (Some 0) }
+    ensures below { IsFilling (many 63) locked (1 ∷ 1 ∷ []) 1 (Some 0) }
+    ensures not_lock { ¬ IsFilling (many 63) locked (1 ∷ 1 ∷ []) 0 None }
+{}

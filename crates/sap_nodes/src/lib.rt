@@ -17,7 +17,7 @@ pub use clash::clash_node;
 pub use finding::word_node;
 pub use flawed::flaw_node;
 pub use full::{Spoken, full_node};
-pub use laws::{filled_scopes, nodes_by_hand, nodes_of_flaws};
+pub use laws::{filled_by_hand, filled_scopes, nodes_by_hand, nodes_of_flaws};
 pub use part::Part;
 pub use signed::signed_node;
 pub use unbound::unbound_node;
