@@ -15,12 +15,11 @@ use Rattle.sap_process.specs.Sites.{Site, message_var, above_of, scope_below, si
 use Rattle.sap_process.specs.declared.flaw.Flaw.TheVariants.{FactClash}
 use Rattle.sap_nodes.specs.HeadNodes as node
 use Rattle.sap_nodes.specs.HeadNodes.{Node, tree_nodes, head_nodes}
-use Rattle.sap_nodes.specs.FlawNodes.{stored_of, shown_of, IsClashingNode, IsFlawedAt, IsTold}
-use Rattle.sap_nodes.specs.code.Clashes.{noted_of, is_clashing, node_noted, clash_met, clash_met_all, clash_head, clash_along, noted_all, nothing_noted}
+use Rattle.sap_nodes.specs.FlawNodes.{stored_of, shown_of, IsClashingNode, IsTold}
+use Rattle.sap_nodes.specs.code.Clashes.{noted_of, is_clashing, node_noted, clash_met_all, clash_head, clash_along, noted_all, nothing_noted}
 use Rattle.sap_nodes.specs.code.Searches.{most, visited, after, at_first, found_at}
 use Rattle.sap_nodes.specs.declared.clash.Facts.{Facts}
 use Rattle.sap_nodes.specs.declared.clash.Met.{Met}
-use Rattle.sap_nodes.specs.declared.clash.Noted.{Noted}
 use Rattle.sap_nodes.specs.declared.finding.Search.{Search}
 use Rattle.sap_nodes.specs.declared.part.Part.{Part}
 use Rattle.sap_nodes.specs.declared.part.Part.TheVariants.{Pattern, Shown, Given}

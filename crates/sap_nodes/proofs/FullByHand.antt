@@ -4,12 +4,11 @@ use Rattle.std.specs.Prelude.{slice_get, codes}
 use Rattle.sap_terms.specs.Equations.{pair_name}
 use Rattle.sap_terms.specs.declared.var.Sort.TheVariants.{Msg}
 use Rattle.sap_terms.specs.declared.var.Var.{Var}
-use Rattle.sap_process.specs.Proc.{Proc, nil, act}
-use Rattle.sap_process.specs.Action.{input}
+use Rattle.sap_process.specs.Proc.{Proc}
 use Rattle.sap_process.specs.Sites.{above_of}
 use Rattle.sap_nodes.specs.FullScope.{binding_nodes, IsFilling, here, further}
-use Rattle.sap_nodes.specs.HeadNodes.{Node, variable, symbol}
-use Rattle.sap_nodes.specs.NodeExamples.{var_of, many, u, three_names, locked}
+use Rattle.sap_nodes.specs.HeadNodes.{variable, symbol}
+use Rattle.sap_nodes.specs.NodeExamples.{var_of, many, three_names, locked}
 use Rattle.sap_nodes.specs.declared.part.Part.TheVariants.{Pattern}
 use Rattle.sap_nodes.proofs.FullLaws.{one_filling}
 

@@ -12,17 +12,17 @@ use Rattle.sap_terms.specs.declared.var.Var.{Var}
 use Rattle.sap_terms.proofs.PlainLaws.Items.{item_cases, cons_cases, contains_got}
 use Rattle.sap_terms.proofs.PlainLaws.Known.{clash}
 use Rattle.sap_terms.proofs.PlainLaws.Numbers.{same_number}
-use Rattle.sap_process.specs.Action.{Action, new, out, send, input, receive, event, insert, delete, lock, unlock, embedded}
+use Rattle.sap_process.specs.Action.{new, out, send, input, receive, event, insert, delete, lock, unlock, embedded}
 use Rattle.sap_process.specs.Places.{place, place_from, child}
 use Rattle.sap_process.specs.Proc.{Proc, nil, parallel, replicated, act, test, lookup}
-use Rattle.sap_process.specs.Sites.{Above, Site, above_of, scope_below, message_var}
+use Rattle.sap_process.specs.Sites.{Above, Site, scope_below, message_var}
 use Rattle.sap_nodes.specs.FullScope.{IsFull, IsNamed, binding_nodes, front_nodes, IsLastName, IsLock, IsLast, Fills, here, further}
 use Rattle.sap_nodes.specs.HeadNodes as node
 use Rattle.sap_nodes.specs.HeadNodes.{Node, tree_nodes, trees_nodes, fact_nodes, facts_nodes}
 use Rattle.sap_nodes.specs.code.Full.{is_lock, head_bound}
 use Rattle.sap_nodes.specs.declared.part.Part.{Part}
 use Rattle.sap_nodes.specs.declared.part.Part.TheVariants.{Pattern, Shown, Given}
-use Rattle.sap_nodes.proofs.FullTold.{fuller, none_full, locks_below, locking, got_below}
+use Rattle.sap_nodes.proofs.FullTold.{fuller, none_full, locks_below, locking}
 use Rattle.sap_nodes.proofs.HeadMembers.{none_of, in_flat}
 use Rattle.sap_nodes.proofs.LastNames.{HeadOutcome, known_head, head_outcome}
 

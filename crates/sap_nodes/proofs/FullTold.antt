@@ -1,21 +1,19 @@
 -- The way along a path to what is the first too many.
-use Rattle.std.proofs.Common.{◌≡◌, ℕ, zero, suc, ◌+◌, ◌-◌, ◌<◌, ◌≤◌, List, [], ◌∷◌, ◌++◌, Bool, true, false, Option, Some, None, inl, inr, arith, length, nat_eq, refl, sym, ap, subst, ◌∙◌}
-use Rattle.std.specs.Prelude.{◌⊎◌, not, min, slice_get, nat_lt, if◌then◌else◌}
-use Rattle.std.proofs.lemmas.Bool.Decides.{Decides-eqb, Decides-ltb}
+use Rattle.std.proofs.Common.{◌≡◌, ℕ, zero, suc, ◌+◌, ◌-◌, ◌<◌, ◌≤◌, List, [], ◌∷◌, Bool, true, false, Option, Some, None, inl, inr, arith, length, nat_eq, refl, sym, ap, subst, ◌∙◌}
+use Rattle.std.specs.Prelude.{◌⊎◌, not, slice_get, nat_lt, if◌then◌else◌}
+use Rattle.std.proofs.lemmas.Bool.Decides.{Decides-ltb}
 use Rattle.std.proofs.lemmas.List.{length-append}
 use Rattle.std.proofs.lemmas.List.Elements.{All-head, All-tail}
 use Rattle.sap_terms.specs.Path.{IsDigit, AreDigits}
 use Rattle.sap_terms.specs.declared.limits.TheConstants.{MOST_SCOPE_NAMES}
 use Rattle.sap_terms.specs.declared.var.Var.{Var}
 use Rattle.sap_terms.proofs.PlainLaws.Known.{clash}
-use Rattle.sap_process.specs.Action.{Action, new, out, send, input, receive, event, insert, delete, lock, unlock, embedded}
-use Rattle.sap_process.specs.Heads.{locks_set}
+use Rattle.sap_process.specs.Action.{new, out, send, input, receive, event, insert, delete, lock, unlock, embedded}
 use Rattle.sap_process.specs.Places.{first_child, second_child, child}
 use Rattle.sap_process.specs.Proc.{Proc, nil, parallel, replicated, act, test, lookup}
 use Rattle.sap_process.specs.Sites.{Above, above_of, scope_below, bound_by, message_var}
-use Rattle.sap_nodes.specs.FullScope.{IsFull, IsLock, IsLast, Fills, here, further, told_node, IsFillingTold}
-use Rattle.sap_nodes.specs.code.Full.{head_bound, is_lock_action, is_lock, is_past, settled, fill_along}
-use Rattle.sap_nodes.specs.code.Searches.{most}
+use Rattle.sap_nodes.specs.FullScope.{IsFull, IsLock, Fills, here, further, told_node, IsFillingTold}
+use Rattle.sap_nodes.specs.code.Full.{head_bound, is_lock, is_past, settled, fill_along}
 use Rattle.sap_nodes.specs.declared.full.Spoken.{Spoken}
 use Rattle.sap_nodes.specs.declared.trail.Trail.{Trail}
 use Rattle.sap_nodes.proofs.LastNames.{Short, AtHead, HeadOutcome, known_head, head_outcome}

@@ -5,23 +5,21 @@ use Rattle.std.specs.Str.{bytes_eq}
 use Rattle.std.specs.List.{flat_map}
 use Rattle.std.proofs.lemmas.Bool.Decides.{Decides-eqb}
 use Rattle.std.proofs.lemmas.List.{append_assoc, append-nil, length-append, map-append}
-use Rattle.sap_terms.specs.Tree.{Tree, node_count}
-use Rattle.sap_terms.specs.Variables.{tree_vars, facts_vars, is_known, new_vars}
-use Rattle.sap_terms.specs.declared.fact.Fact.{Fact}
+use Rattle.sap_terms.specs.Tree.{node_count}
+use Rattle.sap_terms.specs.Variables.{is_known, new_vars}
 use Rattle.sap_terms.specs.declared.limits.TheConstants.{MOST_SCOPE_NAMES}
 use Rattle.sap_terms.specs.declared.var.Var.{Var}
 use Rattle.sap_terms.proofs.PlainLaws.Known.{own_name, not_in, out_of, clash}
-use Rattle.sap_process.specs.Action.{Action, new, out, send, input, receive, event, insert, delete, lock, unlock, embedded}
+use Rattle.sap_process.specs.Action.{new, out, send, input, receive, event, insert, delete, lock, unlock, embedded}
 use Rattle.sap_process.specs.Proc.{Proc, nil, parallel, replicated, act, test, lookup}
 use Rattle.sap_process.specs.Sites.{above_of, scope_below, var_names, fresh_var, message_var}
 use Rattle.sap_nodes.specs.FullScope.{front_nodes, binding_nodes, IsLastName}
 use Rattle.sap_nodes.specs.HeadNodes as node
 use Rattle.sap_nodes.specs.HeadNodes.{Node, variable, tree_nodes, facts_nodes}
-use Rattle.sap_nodes.specs.code.Full.{binder_met, action_bound, head_bound}
+use Rattle.sap_nodes.specs.code.Full.{binder_met, head_bound}
 use Rattle.sap_nodes.specs.code.Searches.{most, visited, at_first}
 use Rattle.sap_nodes.specs.code.Trails.{met_all}
 use Rattle.sap_nodes.specs.declared.finding.Search.{Search}
-use Rattle.sap_nodes.specs.declared.part.Part.{Part}
 use Rattle.sap_nodes.specs.declared.part.Part.TheVariants.{Pattern, Shown, Given}
 use Rattle.sap_nodes.specs.declared.trail.How.TheVariants.{Last}
 use Rattle.sap_nodes.specs.declared.trail.Trail.{Trail}

@@ -1,7 +1,6 @@
 -- Facts that are noted, and what they tell of the next.
-use Rattle.std.proofs.Common.{◌≡◌, ℕ, List, [], ◌∷◌, ◌++◌, Bool, true, false, refl, sym, ap, ◌∙◌, ◌+◌, drop}
+use Rattle.std.proofs.Common.{◌≡◌, ℕ, List, [], ◌∷◌, ◌++◌, Bool, false, refl, sym, ap, ◌∙◌, ◌+◌, drop}
 use Rattle.std.specs.Prelude.{Some, slice_get}
-use Rattle.sap_terms.specs.Signature.{Sig}
 use Rattle.sap_terms.specs.Tree as tree
 use Rattle.sap_terms.specs.Tree.{Tree, Trees, none, more, trees_of}
 use Rattle.sap_terms.specs.declared.fact.Fact.{Fact}

@@ -1,5 +1,5 @@
 -- With which name or lock more are in scope than may be.
-use Rattle.std.specs.Prelude.{◌≡◌, ◌<◌, ℕ, suc, zero, ◌+◌, ◌-◌, ◌^◌, min, List, [], ◌∷◌, ◌++◌, length, slice_get, Option, Some, None}
+use Rattle.std.specs.Prelude.{◌≡◌, ◌<◌, ℕ, suc, ◌+◌, ◌-◌, ◌^◌, min, List, [], ◌∷◌, ◌++◌, length, slice_get, Option, Some, None}
 use Rattle.sap_terms.specs.declared.limits.TheConstants.{MOST_SCOPE_NAMES}
 use Rattle.sap_terms.specs.declared.var.Var.{Var}
 use Rattle.sap_process.specs.Action.{Action, new, input, receive, lock, embedded}
