@@ -1,0 +1,14 @@
+use Rattle.std.proofs.Common.{◌+◌, drop, ap, ◌∙◌}
+use Rattle.sap_terms.specs.Tree.{trees_of}
+use Rattle.sap_terms.specs.View.{tree}
+use Rattle.sap_nodes.specs.HeadNodes.{trees_nodes}
+use Rattle.sap_nodes.specs.code.NodeTests.{is_such}
+use Rattle.sap_nodes.specs.code.Searches.{after}
+use Rattle.sap_nodes.proofs.SearchLemmas.{term_step}
+use Rattle.sap_nodes.proofs.finding.+nodes.Goals as goal
+
+pub in_terms-loop-k-preserved : goal.in_terms-loop-k-preserved
+in_terms-loop-k-preserved t c =
+    ap (λ a. after (is_such c.args.sig.now c.args.which) a (trees_nodes c.args.part (trees_of (drop (c.loop-k.k + 1) c.args.ts.now)))) c.in_term.ensures
+    ∙ term_step (is_such c.args.sig.now c.args.which) c.loop-k.search c.args.part c.args.ts.now c.loop-k.k (tree c.at.result.now) c.at.ensures.got
+    ∙ c.loop-k.invariant
