@@ -20,3 +20,4 @@ pub mod ItemPlace
 pub mod NextUse
 pub mod Telling
 pub mod Loose
+pub mod OnePath

@@ -10,3 +10,4 @@ pub mod Advice
 pub mod Explained
 pub mod ExplainedExamples
 pub mod code
+pub mod Paths
