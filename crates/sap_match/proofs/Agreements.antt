@@ -1,5 +1,5 @@
 -- Terms with slots compared step by step.
-use Rattle.std.proofs.Common.{◌≡◌, ℕ, zero, suc, ◌+◌, ◌<◌, ◌≤◌, List, [], ◌∷◌, Option, Some, None, length, drop, take, slice_get, refl, sym, ap, ◌∙◌, arith}
+use Rattle.std.proofs.Common.{◌≡◌, ℕ, zero, suc, ◌+◌, ◌<◌, ◌≤◌, List, [], ◌∷◌, false, if◌then◌else◌, Option, Some, None, length, drop, take, slice_get, map, refl, sym, ap, ◌∙◌, arith}
 use Rattle.std.specs.Prelude.{option_map}
 use Rattle.std.proofs.Math.ListN.{drop_of_length-le}
 use Rattle.std.proofs.Math.Seq.{take-append_seam}
@@ -8,8 +8,16 @@ use Rattle.sap_match.specs.Atoms.{Held}
 use Rattle.sap_match.specs.Matched.{State, Two, agreed, agreed_all, agreed_left, agreed_leaf, agreed_right, behind, matched, next_term, onward, term_in}
 use Rattle.sap_match.specs.code.Reached.{IsReached, left_marks, two_at}
 use Rattle.sap_match.specs.Matched.{StaysInFront}
+use Rattle.sap_match.specs.View.{held}
 use Rattle.sap_match.specs.declared.agreeing.Places.{Places}
-use Rattle.sap_terms.specs.Tree.{Tree, none, trees_of}
+use Rattle.sap_match.specs.declared.atom.Value.{Value}
+use Rattle.std.specs.Str.{bytes_eq}
+use Rattle.sap_terms.specs.Tree.{Tree, Trees, apply, fresh, none, public, trees_of, variable}
+use Rattle.sap_terms.specs.View.{tree}
+use Rattle.sap_terms.specs.declared.term.Term.{Term}
+use Rattle.sap_terms.specs.declared.term.Term.TheVariants.{Var as TVar, Public as TPublic, Fresh as TFresh, App as TApp}
+use Rattle.sap_terms.specs.declared.term.TermList.{TermList}
+use Rattle.sap_terms.specs.declared.var.Var.{Var}
 
 -- what was put behind, cut off
 pub cut : {X : Type 0} (old new : List X) → StaysInFront old new → take (length old) new ≡ old
@@ -97,6 +105,32 @@ each_more ss ts k a b w held h g =
 
 pub each_end : (ss ts : List Tree) (k : ℕ) (w : Two) (held : List Held) → length ss ≤ k → length ts ≤ k → agreed_all (trees_of (drop k ss)) (trees_of (drop k ts)) w held ≡ Some w
 each_end ss ts k w held h l = ap (λ xs. agreed_all (trees_of xs) (trees_of (drop k ts)) w held) (drop_of_length-le ss h) ∙ ap (λ ys. agreed_all none (trees_of ys) w held) (drop_of_length-le ts l)
+
+pub each_agreed : (ss ts : List Tree) (k : ℕ) (a b : Tree) (w r : Two) (vs ws : List Value) (o : Option Two) → slice_get ss k ≡ Some a → slice_get ts k ≡ Some b → o ≡ agreed a b w (map held vs) → o ≡ Some r → ws ≡ vs → agreed_all (trees_of (drop k ss)) (trees_of (drop k ts)) w (map held vs) ≡ agreed_all (trees_of (drop (k + 1) ss)) (trees_of (drop (k + 1) ts)) r (map held ws)
+each_agreed ss ts k a b w r vs ws o h g e d s = each_more ss ts k a b w (map held vs) h g ∙ ap (λ o. onward o (λ r. agreed_all (trees_of (drop (k + 1) ss)) (trees_of (drop (k + 1) ts)) r (map held vs))) (sym e ∙ d) ∙ ap (λ vs. agreed_all (trees_of (drop (k + 1) ss)) (trees_of (drop (k + 1) ts)) r (map held vs)) (sym s)
+
+pub each_differs : (ss ts : List Tree) (k : ℕ) (a b : Tree) (w : Two) (held : List Held) (o : Option Two) → slice_get ss k ≡ Some a → slice_get ts k ≡ Some b → o ≡ agreed a b w held → o ≡ None → agreed_all (trees_of (drop k ss)) (trees_of (drop k ts)) w held ≡ None
+each_differs ss ts k a b w held o h g e d = each_more ss ts k a b w held h g ∙ ap (λ o. onward o (λ r. agreed_all (trees_of (drop (k + 1) ss)) (trees_of (drop (k + 1) ts)) r held)) (sym e ∙ d)
+
+-- where the right term alone is a variable, and where two symbols differ
+pub right_is : (s : Tree) (f : List ℕ) (ss : Trees) (t : Tree) (v : Var) (w : Two) (held : List Held) → s ≡ apply f ss → t ≡ variable v → agreed_right s w held ≡ agreed s t w held
+right_is s f ss t v w held e d = ap (λ s. agreed_right s w held) e ∙ sym (ap (λ s. agreed s t w held) e ∙ ap (λ t. agreed (apply f ss) t w held) d)
+
+pub symbols_differ : (s : Tree) (f : List ℕ) (ss : Trees) (t : Tree) (g : List ℕ) (ts : Trees) (w : Two) (held : List Held) → s ≡ apply f ss → t ≡ apply g ts → bytes_eq f g ≡ false → agreed s t w held ≡ None
+symbols_differ s f ss t g ts w held e d n = ap (λ s. agreed s t w held) e ∙ ap (λ t. agreed (apply f ss) t w held) d ∙ ap (λ b. if b then agreed_all ss ts w held else None) n
+
+-- where one of the terms, or both, have neither a variable nor a symbol at their head
+pub kinds_differ : (s : Tree) (f : List ℕ) (ss : Trees) (t : Term) (w : Two) (held : List Held) → s ≡ apply f ss → ((v : Var) → t ≡ TVar v → ⊥) → ((g : List ℕ) (ts : TermList) → t ≡ TApp g ts → ⊥) → agreed s (tree t) w held ≡ None
+kinds_differ s f ss (TVar v) w held e other _ = absurd (other v refl)
+kinds_differ s f ss (TPublic n) w held e _ _ = ap (λ s. agreed s (public n) w held) e
+kinds_differ s f ss (TFresh k) w held e _ _ = ap (λ s. agreed s (fresh k) w held) e
+kinds_differ s f ss (TApp g ts) w held e _ other = absurd (other g ts refl)
+
+pub leaf_is : (s : Term) (t : Tree) (w : Two) (held : List Held) → ((v : Var) → s ≡ TVar v → ⊥) → ((g : List ℕ) (ts : TermList) → s ≡ TApp g ts → ⊥) → agreed_leaf (tree s) t w held ≡ agreed (tree s) t w held
+leaf_is (TVar v) t w held other _ = absurd (other v refl)
+leaf_is (TPublic n) t w held _ _ = refl
+leaf_is (TFresh k) t w held _ _ = refl
+leaf_is (TApp g ts) t w held _ other = absurd (other g ts refl)
 
 lost : (o : Option Two) (f : Two → Option Two) → ((s : Two) → f s ≡ None) → onward o f ≡ None
 lost None f h = refl

@@ -1,5 +1,5 @@
 -- Whether a fact of a time is shown, fact by fact.
-use Rattle.std.proofs.Common.{◌≡◌, ℕ, zero, suc, ◌+◌, ◌≤◌, List, [], ◌∷◌, Bool, false, ◌||◌, Option, Some, None, length, drop, slice_get, sym, ap, refl}
+use Rattle.std.proofs.Common.{◌≡◌, ℕ, zero, suc, ◌+◌, ◌≤◌, List, [], ◌∷◌, Bool, true, false, ◌||◌, Option, Some, None, length, drop, slice_get, map, sym, ap, refl, ◌∙◌}
 use Rattle.std.specs.Prelude.{option_map}
 use Rattle.std.proofs.Math.ListN.{drop_of_length-le}
 use Rattle.std.specs.List.{list_any}
@@ -29,6 +29,19 @@ any_more p xs k x h = ap (list_any p) (drop_got xs k x h)
 
 pub any_end : (p : Fact → Bool) (xs : List Fact) (k : ℕ) → length xs ≤ k → list_any p (drop k xs) ≡ false
 any_end p xs k h = ap (list_any p) (drop_of_length-le xs h)
+
+-- a fact more of some that are lent or not: it is shown, or passed over
+pub fact_shown : {X : Type 0} (p : Fact → Bool) (f : X → Fact) (xs : List X) (k : ℕ) (x : X) → slice_get xs k ≡ Some x → p (f x) ≡ true → list_any p (map f (drop k xs)) ≡ true
+fact_shown p f xs k x h e = ap (λ l. list_any p (map f l)) (drop_got xs k x h) ∙ ap (λ b. b || list_any p (map f (drop (k + 1) xs))) e
+
+pub fact_passed : {X : Type 0} (p : Fact → Bool) (f : X → Fact) (xs : List X) (k : ℕ) (x : X) → slice_get xs k ≡ Some x → p (f x) ≡ false → list_any p (map f (drop k xs)) ≡ list_any p (map f (drop (k + 1) xs))
+fact_passed p f xs k x h e = ap (λ l. list_any p (map f l)) (drop_got xs k x h) ∙ ap (λ b. b || list_any p (map f (drop (k + 1) xs))) e
+
+pub any_shown : (p : Fact → Bool) (xs : List Fact) (k : ℕ) (x : Fact) → slice_get xs k ≡ Some x → p x ≡ true → list_any p (drop k xs) ≡ true
+any_shown p xs k x h e = any_more p xs k x h ∙ ap (λ b. b || list_any p (drop (k + 1) xs)) e
+
+pub any_passed : (p : Fact → Bool) (xs : List Fact) (k : ℕ) (x : Fact) → slice_get xs k ≡ Some x → p x ≡ false → list_any p (drop k xs) ≡ list_any p (drop (k + 1) xs)
+any_passed p xs k x h e = any_more p xs k x h ∙ ap (λ b. b || list_any p (drop (k + 1) xs)) e
 
 pub ruleset any_laws = (any_more, any_end)
 

@@ -1,5 +1,6 @@
 -- The search through guards and their facts, step by step.
 use Rattle.std.proofs.Common.{◌≡◌, ℕ, zero, suc, ◌+◌, ◌≤◌, List, [], ◌∷◌, ◌++◌, Bool, true, false, not, ◌&&◌, ◌||◌, Option, Some, None, length, drop, take, map, slice_get, append_assoc, refl, sym, ap, ◌∙◌, if◌then◌else◌, arith}
+use mathlib.Core.Bool.{beq}
 use Rattle.std.proofs.Math.ListN.{drop_of_length-le}
 use Rattle.std.proofs.Math.Seq.{take-append_seam}
 use Rattle.std.proofs.lemmas.List.{append-nil}
@@ -129,6 +130,19 @@ leads_off false p xs k x h e = ap (λ l. list_any p (map sight l)) (drop_got xs 
 pub leads_end : (d : Bool) (p : Sight → Bool) (xs : List Sighted) (k : ℕ) → length xs ≤ k → any_or_all d p (map sight (drop k xs)) ≡ d
 leads_end d p xs k h = ap (λ l. any_or_all d p (map sight l)) (drop_of_length-le xs h) ∙ none_leads d p
 
+-- what a test of two answers says
+pub answers_differ : (a d : Bool) → not (beq a d) ≡ true → a ≡ d → ⊥
+answers_differ true true e _ = cc
+answers_differ true false e h = cc
+answers_differ false true e h = cc
+answers_differ false false e _ = cc
+
+pub answers_same : (a d : Bool) → not (beq a d) ≡ false → a ≡ d
+answers_same true true e = refl
+answers_same true false e = absurd (cc)
+answers_same false true e = absurd (cc)
+answers_same false false e = refl
+
 pub ruleset branch_laws = (leads_on, leads_off, leads_end)
 
 pub chosen_met : (d : Bool) (gs : List GuardPlan) (k : ℕ) (g : GuardPlan) (s : Sighted) (hs ks : List Held) (leaf : List Held → Bool) → slice_get gs k ≡ Some g → guarded (atom g.atom) s.fact.now s.time hs ≡ Some ks → chosen d (map guard (drop k gs)) (sight s) hs leaf ≡ searched d (map guard (drop (k + 1) gs)) ks leaf
@@ -136,5 +150,14 @@ chosen_met d gs k g s hs ks leaf h e = ap (λ z. chosen d z (sight s) hs leaf) (
 
 pub chosen_missed : (d : Bool) (gs : List GuardPlan) (k : ℕ) (g : GuardPlan) (s : Sighted) (hs : List Held) (leaf : List Held → Bool) → slice_get gs k ≡ Some g → guarded (atom g.atom) s.fact.now s.time hs ≡ None → chosen d (map guard (drop k gs)) (sight s) hs leaf ≡ d
 chosen_missed d gs k g s hs leaf h e = ap (λ z. chosen d z (sight s) hs leaf) (guards_got gs k g h) ∙ ap (λ o. with_some o d (λ h. searched d (map guard (drop (k + 1) gs)) h leaf)) e
+
+-- what a guard met, by the answer
+pub met_none : (hs : List Held) (b : Bool) (r : Option (List Held)) → IsMet hs b r → b ≡ false → r ≡ None
+met_none hs true r h e = absurd (cc)
+met_none hs false r h e = h
+
+pub met_some : (hs : List Held) (b : Bool) (r : Option (List Held)) → IsMet hs b r → b ≡ true → r ≡ Some hs
+met_some hs true r h e = h
+met_some hs false r h e = absurd (cc)
 
 pub ruleset choose_laws = (cut, chosen_met, chosen_missed)

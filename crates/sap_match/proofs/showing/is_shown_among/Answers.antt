@@ -1,0 +1,30 @@
+use Rattle.std.proofs.Common.{◌∙◌, ap, length, map, refl, sym}
+use Rattle.std.proofs.lemmas.Option.{slice_get_read}
+use Rattle.std.specs.List.{list_any}
+use Rattle.sap_match.proofs.ShownFacts.{any_end, any_passed, any_shown}
+use Rattle.sap_match.specs.Matched.{fits_atom}
+use Rattle.sap_match.specs.View.{atom, held}
+use Rattle.sap_match.proofs.showing.is_shown_among.Goals as goal
+
+pub returns-then-branch-clause-answer : goal.returns-then-branch-clause-answer
+returns-then-branch-clause-answer c =
+    let xs = c.as_slice-x-items.result.now in
+    let p = fits_atom c.args.n.now (atom c.args.a.now) (map held c.args.values.now.items) in
+    let got = slice_get_read xs (length xs) c.loop-x.x-index c.x-item.result refl c.loop-x-test.true c.x-item.is in
+    let there = ap (λ vs. fits_atom c.args.n.now (atom c.args.a.now) (map held vs) c.x-item.result) (sym c.loop-x.invariant.same) ∙ sym c.in_ok-is_shown_by.ensures.answer ∙ c.if-branch.true in
+    sym (ap (list_any p) (sym c.as_slice-x-items.ensures) ∙ c.loop-x.invariant.rest ∙ any_shown p xs c.loop-x.x-index c.x-item.result got there)
+
+pub loop-x-preserved : goal.loop-x-preserved
+loop-x-preserved c =
+    let xs = c.as_slice-x-items.result.now in
+    let p = fits_atom c.args.n.now (atom c.args.a.now) (map held c.args.values.now.items) in
+    let got = slice_get_read xs (length xs) c.loop-x.x-index c.x-item.result refl c.loop-x-test.true c.x-item.is in
+    let not_there = ap (λ vs. fits_atom c.args.n.now (atom c.args.a.now) (map held vs) c.x-item.result) (sym c.loop-x.invariant.same) ∙ sym c.in_ok-is_shown_by.ensures.answer ∙ c.if-branch.false in record {
+      rest = c.loop-x.invariant.rest ∙ any_passed p xs c.loop-x.x-index c.x-item.result got not_there;
+      same = c.in_ok-is_shown_by.ensures.same ∙ c.loop-x.invariant.same;
+    }
+
+pub returns-clause-answer : goal.returns-clause-answer
+returns-clause-answer c =
+    let p = fits_atom c.args.n.now (atom c.args.a.now) (map held c.args.values.now.items) in
+    sym (ap (list_any p) (sym c.as_slice-x-items.ensures) ∙ c.loop-x.invariant.rest ∙ any_end p c.as_slice-x-items.result.now c.loop-x.x-index c.loop-x-test.false)
