@@ -1,5 +1,5 @@
 -- The sizes that are kept are those of expansions.
-use Rattle.std.proofs.Common.{◌≡◌, ℕ, ◌+◌, ◌-◌, ◌^◌, max, min, true, false, List, [], ◌∷◌, Some, drop, map, refl, sym, ap, ◌∙◌, ⊎_elim, arith}
+use Rattle.std.proofs.Common.{◌≡◌, ℕ, ◌+◌, ◌-◌, ◌^◌, max, min, Bool, true, false, List, [], ◌∷◌, Some, drop, map, refl, sym, ap, ◌∙◌, ⊎_elim, arith}
 use Rattle.std.proofs.lemmas.Bool.{cases_Bool, false≢true}
 use Rattle.std.specs.Prelude.{if◌then◌else◌, slice_get}
 use Rattle.std.specs.Str.{bytes_eq}
@@ -172,3 +172,24 @@ pub levels_told : (ds : List Definition) (w : Written) (kept : Cost) (n : ℕ) �
     → (identifiers : List (List ℕ)) → n ≡ min (level_count (expansion ds identifiers w).process) (2 ^ 64 - 1)
 levels_told ds w kept n is same o identifiers =
     is ∙ (λ i. min (sized deeper (λ f. same f i) w) (2 ^ 64 - 1)) ∙ levels_sized ds w identifiers o
+
+-- ---- what is told of a use
+
+-- what is kept is cut
+kept_cut : (j : ℕ → ℕ → ℕ) (ds : List Definition) (c : Cost) → ((f : List ℕ) → c f ≡ cut (c f)) → (f : List ℕ) → size_after j c ds f ≡ cut (size_after j c ds f)
+kept_cut j [] c h f = h f
+kept_cut j (d ∷ ds) c h f = kept_cut j ds (with_size j c d) (λ g. one g (bytes_eq d.name g)) f
+  where
+    one : (g : List ℕ) (b : Bool) → (if b then cut (sized j c d.body) else c g) ≡ cut (if b then cut (sized j c d.body) else c g)
+    one g true = sym (cut_twice (sized j c d.body))
+    one g false = h g
+
+pub nodes_of_use : (ds : List Definition) (f : List ℕ) (ts : List Tree) (kept : Cost) → ((g : List ℕ) → kept g ≡ size_after plus (λ h. 1) ds g) → AreInOrder [] ds
+    → (identifiers : List (List ℕ)) → kept f ≡ min (node_count (expansion ds identifiers (call f ts)).process) (2 ^ 64 - 1)
+nodes_of_use ds f ts kept same o identifiers =
+    same f ∙ kept_cut plus ds (λ g. 1) (λ g. refl) f ∙ nodes_sized ds (call f ts) identifiers o
+
+pub levels_of_use : (ds : List Definition) (f : List ℕ) (ts : List Tree) (kept : Cost) → ((g : List ℕ) → kept g ≡ size_after deeper (λ h. 1) ds g) → AreInOrder [] ds
+    → (identifiers : List (List ℕ)) → kept f ≡ min (level_count (expansion ds identifiers (call f ts)).process) (2 ^ 64 - 1)
+levels_of_use ds f ts kept same o identifiers =
+    same f ∙ kept_cut deeper ds (λ g. 1) (λ g. refl) f ∙ levels_sized ds (call f ts) identifiers o

@@ -15,6 +15,7 @@ pub mod WrittenRuns
 pub mod SortedExamples
 pub mod WrittenExamples
 pub mod Sources
+pub mod KeptSizes
 pub mod Order
 pub mod Indexed
 pub mod Seen

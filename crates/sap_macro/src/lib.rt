@@ -32,7 +32,7 @@ pub use laws::{
     same_up_to_names_show_the_same, sizes_are_one, uses_are_instances, uses_show_their_instances,
 };
 pub use seeing::seen;
-pub use sizes::{Size, expanded_size};
+pub use sizes::{Size, expanded_size, use_sizes};
 pub use sorting_laws::{
     arguments_by_hand, plain_bodies_are_in_order, sorted_by_hand, sorting_keeps_scopes,
     sorts_are_exchanged,

@@ -1,11 +1,14 @@
 //! How large expansions are.
 ghost use Rattle.std.specs.Prelude.{◌≡◌, ℕ, List, [], min, IfOk, OnOk};
 ghost use Rattle.sap_terms.specs.NameMap.{value_at};
+ghost use Rattle.sap_terms.specs.Tree.{Tree};
 ghost use Rattle.sap_process.specs.Proc.{node_count, level_count};
 ghost use Rattle.sap_macro.specs.Expansion.{expansion};
 ghost use Rattle.sap_macro.specs.Order.{AreInOrder};
 ghost use Rattle.sap_macro.specs.Sources.{definition_of, definitions, written};
-ghost use Rattle.sap_macro.specs.code.Sizes.{levels_kept, levels_in, nodes_kept, nodes_in, levels_of, nodes_of, with_levels, with_nodes};
+ghost use Rattle.sap_macro.specs.Written.{call};
+ghost use Rattle.sap_macro.specs.KeptSizes.{levels_kept, nodes_kept};
+ghost use Rattle.sap_macro.specs.code.Sizes.{levels_in, nodes_in, levels_of, nodes_of, with_levels, with_nodes};
 
 use crate::definition::{Definition, DefinitionList};
 use crate::source::Source;
@@ -72,6 +75,20 @@ fn sizes_of(alloc: Global, defs: &DefinitionList) -> Result<NameMap<Size>, Mem>
     for k in 0..defs.len() {
         keep(alloc, &mut sizes, defs.at(k))?;
     }
+    Ok(sizes)
+}
+
+/// How large the expansion of a use of each name is behind these definitions, whatever its arguments are and whatever names are taken: as
+/// large as is kept of the name, one place where nothing is. Want of memory is the only error. It takes time in proportion to what is
+/// written, where each name is looked for by its order, and recurses as deep as that.
+pub fn use_sizes(alloc: Global, defs: &DefinitionList) -> Result<NameMap<Size>, Mem>
+    requires { AreInOrder [] (definitions defs.now) }
+    ensures nodes { IfOk result (λ m. (f : List ℕ) (ts : List Tree) (identifiers : List (List ℕ)) → nodes_kept (value_at m f)
+        ≡ min (node_count (expansion (definitions defs.now) identifiers (call f ts)).process) u64.MAX) }
+    ensures levels { IfOk result (λ m. (f : List ℕ) (ts : List Tree) (identifiers : List (List ℕ)) → levels_kept (value_at m f)
+        ≡ min (level_count (expansion (definitions defs.now) identifiers (call f ts)).process) u64.MAX) }
+{
+    let sizes = sizes_of(alloc, defs)?;
     Ok(sizes)
 }
 

@@ -11,7 +11,8 @@ use Rattle.sap_macro.specs.Expansion.{Plain, plain_after, plain_bodies, put, unc
 use Rattle.sap_macro.specs.Order.{AreInOrder, UsesOnly}
 use Rattle.sap_macro.specs.Written.{Written, nil, call, parallel, replicated, act, test, lookup, Definition}
 use Rattle.sap_uses.specs.UseCauses.{Large, first_large, large_after, large_at, large_in, none_large, with_large}
-use Rattle.sap_uses.specs.code.Walks.{Heavy, Sizes, heavy, heavy_after, heavy_at, heavy_in, none_heavy, put_sizes, size_in, sizes_of, with_heavy}
+use Rattle.sap_uses.specs.Sizes.{size_in}
+use Rattle.sap_uses.specs.code.Walks.{Heavy, Sizes, heavy, heavy_after, heavy_at, heavy_in, none_heavy, put_sizes, sizes_of, with_heavy}
 use Rattle.sap_uses.proofs.Fitting.{Fits, large_fits, put_fits}
 use Rattle.sap_terms.proofs.PlainLaws.Known.{one_name, own_name, clash, in_tail, in_cases, not_in}
 

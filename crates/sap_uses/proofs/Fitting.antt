@@ -11,7 +11,8 @@ use Rattle.sap_terms.specs.declared.var.Var.{Var}
 use Rattle.sap_terms.proofs.PlainLaws.Lists.{drop_got}
 use Rattle.sap_macro.specs.Expansion.{put, unchanged}
 use Rattle.sap_uses.specs.UseCauses.{has_large}
-use Rattle.sap_uses.specs.code.Walks.{Sizes, cut, has_heavy, put_sizes, size_in, sizes_of, weight, weights}
+use Rattle.sap_uses.specs.Sizes.{cut, size_in}
+use Rattle.sap_uses.specs.code.Walks.{Sizes, has_heavy, put_sizes, sizes_of, weight, weights}
 
 -- ---- the sizes of arguments by parameters
 

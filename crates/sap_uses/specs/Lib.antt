@@ -1,3 +1,4 @@
+pub mod Sizes
 pub mod UseCauses
 pub mod ScopeFlaws
 pub mod FaultCauses

@@ -58,8 +58,9 @@ pub fn first_parameter_twice(alloc: Global, defs: &DefinitionList) -> Result<Opt
     Ok(None)
 }
 
-// How many parameters each definition has, by its name.
-fn counts_of(alloc: Global, defs: &DefinitionList) -> Result<NameMap<u64>, Mem>
+/// How many parameters each definition has, by its name; of definitions of one name the first counts. Want of memory is the only error.
+/// It takes time in proportion to their number, where each is put in by the order of names.
+pub fn counts_of(alloc: Global, defs: &DefinitionList) -> Result<NameMap<u64>, Mem>
     ensures { IfOk result (λ m. (f : List ℕ) → unwrap_or (value_at m f) 0 ≡ parameter_count (definitions defs.now) f) }
 {
     let mut counts = NameMap::new(alloc);
@@ -72,7 +73,8 @@ fn counts_of(alloc: Global, defs: &DefinitionList) -> Result<NameMap<u64>, Mem>
     Ok(counts)
 }
 
-fn count(counts: &NameMap<u64>, name: &Name) -> u64
+/// How many parameters the name's definition has by these counts, none where nothing defines it.
+pub fn count(counts: &NameMap<u64>, name: &Name) -> u64
     ensures { result ≡ unwrap_or (value_at counts.now name.now) 0 }
 {
     match counts.get(name) {

@@ -6,7 +6,8 @@ ghost use Rattle.sap_macro.specs.Sources.{definition_of, definitions, written};
 ghost use Rattle.sap_uses.specs.UseCauses.{first_large};
 ghost use Rattle.sap_macro.specs.Indexed.{AreIndexed};
 ghost use Rattle.sap_uses.specs.code.Met.{IsEntered, IsReached};
-ghost use Rattle.sap_uses.specs.code.Walks.{heavy, size_in};
+ghost use Rattle.sap_uses.specs.Sizes.{size_in};
+ghost use Rattle.sap_uses.specs.code.Walks.{heavy};
 
 use crate::counts::copied;
 use crate::met::{Met, met_at};

@@ -1,9 +1,10 @@
 -- How large processes are behind names of whose meanings sizes are kept.
-use Rattle.std.specs.Prelude.{ℕ, ◌+◌, ◌-◌, ◌^◌, max, min, List, [], ◌∷◌, Option, None, Some, if◌then◌else◌}
+use Rattle.std.specs.Prelude.{ℕ, ◌+◌, ◌-◌, ◌^◌, max, min, List, [], ◌∷◌, if◌then◌else◌}
 use Rattle.std.specs.Str.{bytes_eq}
 use Rattle.sap_terms.specs.NameMap.{value_at}
 use Rattle.sap_macro.specs.Written.{Written, nil, call, parallel, replicated, act, test, lookup, Definition}
 use Rattle.sap_macro.specs.Walked.{Cost}
+use Rattle.sap_macro.specs.KeptSizes.{levels_kept, nodes_kept}
 use Rattle.sap_macro.specs.declared.sizes.Size.{Size}
 
 -- the size of a process, where sizes of two parts are joined so
@@ -42,15 +43,6 @@ nodes_of ds = size_after plus (λ f. 1) ds
 
 abbrev pub levels_of : List Definition → Cost
 levels_of ds = size_after deeper (λ f. 1) ds
-
--- what is kept of a name
-abbrev pub nodes_kept : Option Size → ℕ
-nodes_kept None = 1
-nodes_kept (Some s) = s.nodes
-
-abbrev pub levels_kept : Option Size → ℕ
-levels_kept None = 1
-levels_kept (Some s) = s.levels
 
 -- the size of a process by what is kept
 abbrev pub nodes_in : List (List ℕ × Size) → Written → ℕ

@@ -5,7 +5,8 @@ use Rattle.sap_terms.specs.Tree.{Tree}
 use Rattle.sap_macro.specs.Sources.{definition_of, written}
 use Rattle.sap_macro.specs.Written.{Written, Definition}
 use Rattle.sap_macro.specs.Walked.{steps_in}
-use Rattle.sap_uses.specs.code.Walks.{Sizes, has_heavy, heavy, put_sizes, size_in, sizes_of}
+use Rattle.sap_uses.specs.Sizes.{size_in}
+use Rattle.sap_uses.specs.code.Walks.{Sizes, has_heavy, heavy, put_sizes, sizes_of}
 use Rattle.sap_uses.specs.declared.large.Reached.{Reached}
 use Rattle.sap_uses.specs.declared.large.Reached.TheVariants.{Large, Body}
 use Rattle.sap_uses.specs.declared.met.Met.{Met}

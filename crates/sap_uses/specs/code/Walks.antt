@@ -1,12 +1,12 @@
 -- The walk for the first use with a large argument: sizes stand for terms, and names without parameters for their bodies.
-use Rattle.std.specs.Prelude.{◌≡◌, ℕ, Bool, ◌+◌, ◌-◌, ◌^◌, min, List, [], ◌∷◌, map, nat_lt, Option, None, Some, if◌then◌else◌}
+use Rattle.std.specs.Prelude.{◌≡◌, ℕ, Bool, ◌+◌, List, [], ◌∷◌, map, nat_lt, Option, None, Some, if◌then◌else◌}
 use Rattle.std.specs.List.{list_any}
-use Rattle.std.specs.Option.{option_or, unwrap_or}
+use Rattle.std.specs.Option.{option_or}
 use Rattle.std.specs.Str.{bytes_eq}
-use Rattle.sap_terms.specs.NameMap.{value_at}
 use Rattle.sap_terms.specs.Tree.{Tree, variable, public, fresh, apply, Trees, none, more}
 use Rattle.sap_terms.specs.declared.limits.TheConstants.{MOST_TERM_NODES}
 use Rattle.sap_macro.specs.Walked.{Cost, cost_of, steps}
+use Rattle.sap_uses.specs.Sizes.{cut}
 use Rattle.sap_macro.specs.Written.{Written, nil, call, parallel, replicated, act, test, lookup, Definition}
 
 -- sizes of names
@@ -25,14 +25,6 @@ abbrev mutual
   pub weights : Sizes → Trees → ℕ
   weights z none = 0
   weights z (more t ts) = weight z t + weights z ts
-
--- sizes from the greatest u64 on are that
-abbrev pub cut : ℕ → ℕ
-cut n = min n (2 ^ 64 - 1)
-
--- the sizes that are kept, 1 for other names
-abbrev pub size_in : List (List ℕ × ℕ) → Sizes
-size_in sizes x = unwrap_or (value_at sizes x) 1
 
 -- one of these has more nodes than a term may have
 abbrev pub has_heavy : Sizes → List Tree → Bool

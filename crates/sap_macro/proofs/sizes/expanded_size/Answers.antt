@@ -1,6 +1,6 @@
 use Rattle.sap_terms.specs.NameMap.{value_at}
 use Rattle.sap_macro.specs.Sources.{definitions, written}
-use Rattle.sap_macro.specs.code.Sizes.{levels_kept, nodes_kept}
+use Rattle.sap_macro.specs.KeptSizes.{levels_kept, nodes_kept}
 use Rattle.sap_macro.proofs.Sized.{nodes_told, levels_told}
 use Rattle.sap_macro.proofs.sizes.expanded_size.Goals as goal
 

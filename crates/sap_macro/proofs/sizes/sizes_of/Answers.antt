@@ -1,6 +1,7 @@
 use Rattle.sap_terms.specs.NameMap.{value_at}
 use Rattle.sap_macro.specs.Sources.{definition_of, definitions}
-use Rattle.sap_macro.specs.code.Sizes.{deeper, levels_kept, levels_of, nodes_kept, nodes_of, plus}
+use Rattle.sap_macro.specs.KeptSizes.{levels_kept, nodes_kept}
+use Rattle.sap_macro.specs.code.Sizes.{deeper, levels_of, nodes_of, plus}
 use Rattle.sap_macro.proofs.Entries.{there}
 use Rattle.sap_macro.proofs.Sized.{one_kept}
 use Rattle.sap_macro.proofs.sizes.sizes_of.Goals as goal

@@ -1,7 +1,8 @@
 use Rattle.std.proofs.Common.{◌≡◌, ℕ, List, drop}
 use Rattle.sap_terms.specs.NameMap.{value_at}
 use Rattle.sap_macro.specs.Sources.{definitions}
-use Rattle.sap_macro.specs.code.Sizes.{deeper, levels_kept, levels_of, nodes_kept, nodes_of, plus, size_after}
+use Rattle.sap_macro.specs.KeptSizes.{levels_kept, nodes_kept}
+use Rattle.sap_macro.specs.code.Sizes.{deeper, levels_of, nodes_of, plus, size_after}
 use Rattle.sap_macro.proofs.sizes.sizes_of.Given as goal
 
 abbrev pub invariant-loop-k : goal.invariant-loop-k

@@ -1,5 +1,5 @@
 use Rattle.sap_macro.specs.Sources.{definition_of, definitions, written}
-use Rattle.sap_uses.specs.code.Walks.{size_in}
+use Rattle.sap_uses.specs.Sizes.{size_in}
 use Rattle.sap_uses.proofs.Heads.{reached_on, reached_smaller}
 use Rattle.sap_uses.proofs.large.behind_uses.Goals as goal
 

@@ -1,6 +1,6 @@
 use Rattle.sap_macro.specs.Sources.{definition_of, definitions}
 use Rattle.sap_uses.specs.code.Met.{IsReached}
-use Rattle.sap_uses.specs.code.Walks.{size_in}
+use Rattle.sap_uses.specs.Sizes.{size_in}
 use Rattle.sap_uses.proofs.Heads.{steps_reached}
 use Rattle.sap_uses.proofs.large.behind_uses.Given as goal
 

@@ -1,6 +1,6 @@
 use Rattle.std.proofs.Common.{sym, ◌∙◌}
 use Rattle.sap_macro.specs.Sources.{definition_of}
-use Rattle.sap_uses.specs.code.Walks.{size_in}
+use Rattle.sap_uses.specs.Sizes.{size_in}
 use Rattle.sap_uses.proofs.Heads.{behind_is}
 use Rattle.sap_uses.proofs.large.entered.Goals as goal
 

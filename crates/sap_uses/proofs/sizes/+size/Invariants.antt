@@ -1,7 +1,8 @@
 use Rattle.std.proofs.Common.{◌≡◌, ◌≤◌, ◌+◌, ◌-◌, ◌*◌, ◌^◌, min, drop}
 use Rattle.sap_terms.specs.Tree.{node_count, trees_count, trees_of}
 use Rattle.sap_terms.specs.View.{tree}
-use Rattle.sap_uses.specs.code.Walks.{size_in, weights}
+use Rattle.sap_uses.specs.Sizes.{size_in}
+use Rattle.sap_uses.specs.code.Walks.{weights}
 use Rattle.sap_uses.proofs.sizes.+size.Given as goal
 
 abbrev pub decreases-size : goal.decreases-size

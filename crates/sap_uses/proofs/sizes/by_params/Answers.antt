@@ -1,6 +1,6 @@
 use Rattle.std.proofs.Common.{arith}
 use Rattle.sap_terms.specs.View.{tree}
-use Rattle.sap_uses.specs.code.Walks.{size_in}
+use Rattle.sap_uses.specs.Sizes.{size_in}
 use Rattle.sap_uses.proofs.Fitting.{first_sizes, next_sizes}
 use Rattle.sap_uses.proofs.sizes.by_params.Goals as goal
 

@@ -1,5 +1,6 @@
 use Rattle.std.proofs.Common.{◌≡◌, ◌≤◌, length, drop}
-use Rattle.sap_uses.specs.code.Walks.{put_sizes, size_in, sizes_of}
+use Rattle.sap_uses.specs.Sizes.{size_in}
+use Rattle.sap_uses.specs.code.Walks.{put_sizes, sizes_of}
 use Rattle.sap_uses.proofs.sizes.by_params.Given as goal
 
 abbrev pub invariant-loop-k : goal.invariant-loop-k
