@@ -24,11 +24,11 @@ mutual
   rest_counts (rest_last r) = term_counts r
   rest_counts (rest_more r s) = omega (arith, length-append (term_words r) (rest_words s), term_counts r, rest_counts s)
 
-  list_counts : {g : Sig} {ts : List Tree} {a b : List Word} (r : IsList g ts a b) → length (list_words r) ≡ trees_count (trees_of ts)
+  pub list_counts : {g : Sig} {ts : List Tree} {a b : List Word} (r : IsList g ts a b) → length (list_words r) ≡ trees_count (trees_of ts)
   list_counts (list_last r) = omega (arith, term_counts r)
   list_counts (list_more r s) = omega (arith, length-append (term_words r) (list_words s), term_counts r, list_counts s)
 
-  args_counts : {g : Sig} {ts : List Tree} {a b : List Word} (r : IsArgs g ts a b) → length (args_words r) ≡ trees_count (trees_of ts)
+  pub args_counts : {g : Sig} {ts : List Tree} {a b : List Word} (r : IsArgs g ts a b) → length (args_words r) ≡ trees_count (trees_of ts)
   args_counts args_none = refl
   args_counts (args_some r) = list_counts r
 
@@ -81,6 +81,6 @@ mutual
   list_within (list_more {a = a} {b = b} {c = c} r s) =
       both (length c) (length a) (length a) (length b) (term_words r) (list_words s) (omega (arith, list_shorter s)) (omega arith) (omega (arith, term_shorter r)) (term_within r) (list_within s)
 
-  args_within : {g : Sig} {ts : List Tree} {a b : List Word} (r : IsArgs g ts a b) → All (Between (length b) (length a)) (args_words r)
+  pub args_within : {g : Sig} {ts : List Tree} {a b : List Word} (r : IsArgs g ts a b) → All (Between (length b) (length a)) (args_words r)
   args_within (args_none {a = a}) = All-nil (Between (length a) (suc (length a)))
   args_within (args_some r) = list_within r

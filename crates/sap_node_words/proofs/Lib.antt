@@ -1,6 +1,9 @@
 pub mod Counts
 pub mod Parts
 pub mod Walks
+pub mod FactWalks
+pub mod FactCounts
 pub mod Stands
 pub mod Steps
+pub mod FactSteps
 pub mod ByHand

@@ -115,3 +115,7 @@ mutual
 pub stands : {g : Sig} {t : Tree} {a b : List Word} (r : IsTerm g t a b) → AllZip (λ u n. StandsAt g u (last_words n a)) (nodes t) (term_words r)
 unfolding AllHere Here
 stands {g = g} {t = t} {a = a} r = zip_weaker (Here g a) (λ u n. StandsAt g u (last_words n a)) (λ u n h. h.1) (nodes t) (term_words r) (term_stands r)
+
+pub arguments_stand : {g : Sig} {ts : List Tree} {a b : List Word} (r : IsArgs g ts a b) → AllZip (λ u n. StandsAt g u (last_words n a)) (nodes_of (trees_of ts)) (args_words r)
+unfolding AllHere Here
+arguments_stand {g = g} {ts = ts} {a = a} r = zip_weaker (Here g a) (λ u n. StandsAt g u (last_words n a)) (λ u n h. h.1) (nodes_of (trees_of ts)) (args_words r) (args_stand r)

@@ -16,7 +16,7 @@ sought (n ∷ ns) zero b = Err n
 sought (n ∷ ns) (suc k) b = sought ns k b
 
 -- one walk behind another
-then_sought : (ns ms : List ℕ) (k : ℕ) (b c : List Word) (go : ℕ → List Word → Walk) → ((j : ℕ) → go j b ≡ sought ms j c) → onward (sought ns k b) go ≡ sought (ns ++ ms) k c
+pub then_sought : (ns ms : List ℕ) (k : ℕ) (b c : List Word) (go : ℕ → List Word → Walk) → ((j : ℕ) → go j b ≡ sought ms j c) → onward (sought ns k b) go ≡ sought (ns ++ ms) k c
 unfolding onward
 then_sought [] ms k b c go h = h k
 then_sought (n ∷ ns) ms zero b c go h = refl
@@ -29,14 +29,14 @@ alone (n ∷ ns) zero b = refl
 alone (n ∷ ns) (suc k) b = alone ns k b
 
 -- and past the word behind
-past_sought : (ns : List ℕ) (k : ℕ) (w : Word) (b : List Word) → past_word (sought ns k (w ∷ b)) ≡ sought ns k b
+pub past_sought : (ns : List ℕ) (k : ℕ) (w : Word) (b : List Word) → past_word (sought ns k (w ∷ b)) ≡ sought ns k b
 unfolding onward
 past_sought [] k w b = refl
 past_sought (n ∷ ns) zero w b = refl
 past_sought (n ∷ ns) (suc k) w b = past_sought ns k w b
 
 -- a node, and a walk behind it
-node_sought : (ns : List ℕ) (k : ℕ) (ws us c : List Word) (go : ℕ → List Word → Walk) → ((j : ℕ) → go j us ≡ sought ns j c) → onward (past_node k ws us) go ≡ sought (length ws ∷ ns) k c
+pub node_sought : (ns : List ℕ) (k : ℕ) (ws us c : List Word) (go : ℕ → List Word → Walk) → ((j : ℕ) → go j us ≡ sought ns j c) → onward (past_node k ws us) go ≡ sought (length ws ∷ ns) k c
 unfolding onward
 node_sought ns zero ws us c go h = refl
 node_sought ns (suc k) ws us c go h = h k
@@ -114,12 +114,12 @@ mutual
   list_goes (list_more {t = t} {ts = ts} {a = a} {b = b} {c = c} r s) k =
       more_go t ts (mark (codes ",")) a b c (term_words r) (list_words s) (λ j. term_goes r j refl) (λ j. list_goes s j) k
 
-  args_go : {g : Sig} {ts : List Tree} {a b : List Word} (r : IsArgs g ts a b) (k : ℕ) → args_walk (trees_of ts) k a ≡ sought (args_words r) k b
+  pub args_go : {g : Sig} {ts : List Tree} {a b : List Word} (r : IsArgs g ts a b) (k : ℕ) → args_walk (trees_of ts) k a ≡ sought (args_words r) k b
   args_go args_none k = refl
   args_go (args_some r) k = args_list r k ∙ list_goes r k
 
 -- what is found is the number at the node's index
-found_sought : (ns : List ℕ) (k : ℕ) (b : List Word) → found (sought ns k b) ≡ slice_get ns k
+pub found_sought : (ns : List ℕ) (k : ℕ) (b : List Word) → found (sought ns k b) ≡ slice_get ns k
 found_sought [] k b = refl
 found_sought (n ∷ ns) zero b = refl
 found_sought (n ∷ ns) (suc k) b = found_sought ns k b
@@ -150,7 +150,7 @@ term_found (term_tuple {t = t} {u = u} {a = a} {b = b} {c = c} r s) k =
     ∙ found_sought (suc (length a) ∷ (term_words r ++ rest_words s)) k c
 
 -- lists with the same items are the same
-same_items : (ns ms : List ℕ) → ((k : ℕ) → slice_get ns k ≡ slice_get ms k) → ns ≡ ms
+pub same_items : (ns ms : List ℕ) → ((k : ℕ) → slice_get ns k ≡ slice_get ms k) → ns ≡ ms
 same_items [] [] h = refl
 same_items [] (m ∷ ms) h = absurd (let e = h 0 in cc (e))
 same_items (n ∷ ns) [] h = absurd (let e = h 0 in cc (e))

@@ -1,3 +1,5 @@
 pub mod NodeWords
+pub mod FactWords
+pub mod Past
 pub mod Examples
 pub mod code

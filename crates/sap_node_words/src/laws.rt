@@ -1,11 +1,15 @@
 //! Laws of the words of nodes, as contracts of functions that do nothing.
-ghost use Rattle.std.specs.Prelude.{◌≡◌, ◌<◌, ◌≤◌, ℕ, List, All, length, false, codes};
+ghost use Rattle.std.specs.Prelude.{◌≡◌, ◌<◌, ◌≤◌, ℕ, Bool, List, All, length, sum_by, false, codes};
 ghost use Rattle.std.specs.List.{AllZip};
 ghost use Rattle.sap_terms.specs.Signature.{Sig};
-ghost use Rattle.sap_terms.specs.Tree.{Tree, node_count};
+ghost use Rattle.sap_terms.specs.declared.fact.Fact.{Fact};
+ghost use Rattle.sap_terms.specs.Tree.{Tree, node_count, trees_count, trees_of};
 ghost use Rattle.sap_grammar.specs.Words.{Word, starts};
-ghost use Rattle.sap_grammar.specs.TermGrammar.{IsTerm, IsConstant};
-ghost use Rattle.sap_node_words.specs.NodeWords.{term_words, nodes, StandsAt, last_words, HasWords};
+ghost use Rattle.sap_grammar.specs.declared.limits.Limits.{Limits};
+ghost use Rattle.sap_grammar.specs.FactGrammar.{IsFact, AreFacts};
+ghost use Rattle.sap_grammar.specs.TermGrammar.{IsTerm, IsArgs, IsConstant};
+ghost use Rattle.sap_node_words.specs.FactWords.{fact_count, fact_words, facts_words};
+ghost use Rattle.sap_node_words.specs.NodeWords.{term_words, args_words, nodes, nodes_of, StandsAt, last_words, HasWords};
 ghost use Rattle.sap_node_words.specs.Examples.{mixed, mixed_words, mixed_with, inner, inner_words, inner_with, triple, nested_words, flat_words, triple_with, pair_of_two, named_words, signed_words, constant_and_fresh, message_and_fresh, two_with};
 
 use sap_grammar::one_term;
@@ -27,6 +31,31 @@ pub fn nodes_and_words()
 {
     one_term();
 }
+
+/// A law: each node of arguments, of a fact and of facts has one word, of arguments one at which the node stands. Words that spell one term that no opening parenthesis follows, the
+/// same arguments, the same fact or the same facts, have the same words for their nodes, and end at one place.
+pub fn facts_and_words()
+    ensures arguments { (g : Sig) (ts : List Tree) (a b : List Word) (r : IsArgs g ts a b)
+        → length (args_words r) ≡ trees_count (trees_of ts) }
+    ensures within { (g : Sig) (ts : List Tree) (a b : List Word) (r : IsArgs g ts a b)
+        → All (λ n. (length b < n) × (n ≤ length a)) (args_words r) }
+    ensures words { (g : Sig) (ts : List Tree) (a b : List Word) (r : IsArgs g ts a b)
+        → AllZip (λ u n. StandsAt g u (last_words n a)) (nodes_of (trees_of ts)) (args_words r) }
+    ensures fact { (g : Sig) (f : Fact) (a b : List Word) (r : IsFact g f a b)
+        → length (fact_words r) ≡ fact_count f }
+    ensures facts { (g : Sig) (m : Limits) (s : Bool) (w : List ℕ) (fs : List Fact) (a b : List Word)
+        (r : AreFacts g m s w fs a b) → length (facts_words r) ≡ sum_by fact_count fs }
+    ensures same_term { (g h : Sig) (t : Tree) (a b c : List Word) (r : IsTerm g t a b)
+        (s : IsTerm h t a c) → starts (codes "(") b ≡ false → starts (codes "(") c ≡ false
+        → (term_words r ≡ term_words s) × (b ≡ c) }
+    ensures same_arguments { (g h : Sig) (ts : List Tree) (a b c : List Word)
+        (r : IsArgs g ts a b) (s : IsArgs h ts a c) → (args_words r ≡ args_words s) × (b ≡ c) }
+    ensures same_fact { (g h : Sig) (f : Fact) (a b c : List Word) (r : IsFact g f a b)
+        (s : IsFact h f a c) → (fact_words r ≡ fact_words s) × (b ≡ c) }
+    ensures same_facts { (g h : Sig) (m l : Limits) (s u : Bool) (w v : List ℕ) (fs : List Fact)
+        (a b c : List Word) (r : AreFacts g m s w fs a b) (o : AreFacts h l u v fs a c)
+        → (facts_words r ≡ facts_words o) × (b ≡ c) }
+{}
 
 /// A law: seven worked examples of the words of nodes, and words that these haven't: the sign of a variable, a parenthesis, a comma,
 /// the word behind, of a tuple its first part, of the pair behind a comma the name behind its sign, the comma, or the tuple's `<`,

@@ -14,7 +14,7 @@ use sap_text::Token;
 
 // Past a node that stands at the first of these tokens, and on at others: it is the one that is sought, or one node less stands
 // before that one.
-fn past_node<'a>(
+pub(crate) fn past_node<'a>(
     before: usize,
     tokens: &[Token],
     behind: &'a [Token],
@@ -31,7 +31,9 @@ fn past_node<'a>(
 
 // Past the mark behind what was walked through.
 #[tactic(auto, unfolding(crate::specs::code::Walk::onward))]
-fn past_word<'a>(walked: Result<(usize, &'a [Token]), usize>) -> Result<(usize, &'a [Token]), usize>
+pub(crate) fn past_word<'a>(
+    walked: Result<(usize, &'a [Token]), usize>,
+) -> Result<(usize, &'a [Token]), usize>
     ensures { (bytes : List ℕ) (walk : Walk) → Comes bytes walked.entry walk
         → Comes bytes result (past_word walk) }
 {
@@ -102,7 +104,7 @@ fn begins_parted(bytes: &[u8], term: &Term, tokens: &[Token]) -> bool
 
 #[cycle(walk)]
 #[tactic(auto, unfolding(crate::specs::code::Walk::onward, crate::specs::code::Walk::term_walk))]
-fn walk_term<'a>(
+pub(crate) fn walk_term<'a>(
     bytes: &[u8],
     term: &Term,
     before: usize,
@@ -142,7 +144,7 @@ fn walk_applied<'a>(
 
 #[cycle(walk)]
 #[tactic(auto, unfolding(crate::specs::code::Walk::onward, crate::specs::code::Walk::args_walk))]
-fn walk_args<'a>(
+pub(crate) fn walk_args<'a>(
     bytes: &[u8],
     terms: &TermList,
     before: usize,

@@ -19,3 +19,4 @@ pub mod LastNames
 pub mod FullTold
 pub mod FullLaws
 pub mod FullByHand
+pub mod ComingDown

@@ -6,3 +6,4 @@ pub mod Rebound
 pub mod Signs
 pub mod Clashes
 pub mod Full
+pub mod Sites

@@ -124,7 +124,13 @@ fn is_past(lock: bool, known: u64, room: u64) -> bool
 }
 
 // What the head binds for its child of this digit is known, and the name is looked for that finds so many known.
-fn bind(alloc: Global, room: u64, p: &Process, digit: u8, trail: &mut Trail) -> Result<(), Mem>
+pub(crate) fn bind(
+    alloc: Global,
+    room: u64,
+    p: &Process,
+    digit: u8,
+    trail: &mut Trail,
+) -> Result<(), Mem>
     ensures { OnOk result (trail.new ≡ head_bound room trail.old.known (proc p.now) digit) }
 {
     trail.search = Search {

@@ -9,6 +9,7 @@ mod full;
 mod laws;
 mod part;
 mod signed;
+mod site;
 mod trail;
 mod unbound;
 
@@ -20,4 +21,5 @@ pub use full::{Spoken, full_node};
 pub use laws::{filled_by_hand, filled_scopes, nodes_by_hand, nodes_of_flaws};
 pub use part::Part;
 pub use signed::signed_node;
+pub use site::node_at;
 pub use unbound::unbound_node;

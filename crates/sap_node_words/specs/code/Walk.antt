@@ -1,8 +1,9 @@
 -- The walk through a term beside its words to one of its nodes.
-use Rattle.std.specs.Prelude.{◌≡◌, ℕ, zero, suc, Bool, true, false, not, ◌&&◌, ◌||◌, if◌then◌else◌, codes, List, length, drop, Option, Some, None, Result, Ok, Err}
+use Rattle.std.specs.Prelude.{◌≡◌, ℕ, zero, suc, Bool, true, false, not, ◌&&◌, ◌||◌, if◌then◌else◌, codes, List, [], ◌∷◌, length, drop, Option, Some, None, Result, Ok, Err}
 use Rattle.std.specs.Borrow.{Bor}
 use Rattle.sap_text.specs.declared.token.Token.{Token}
-use Rattle.sap_terms.specs.Tree.{Tree, variable, public, fresh, apply, Trees, none, more}
+use Rattle.sap_terms.specs.declared.fact.Fact.{Fact}
+use Rattle.sap_terms.specs.Tree.{Tree, variable, public, fresh, apply, Trees, none, more, trees_of}
 use Rattle.sap_grammar.specs.Words.{Word, starts, words_of}
 
 -- how many words are left from that of the node that is sought; or how many nodes stand still before it, and the words behind
@@ -98,6 +99,24 @@ unfoldable mutual
   rest_walk (public n) k ws = past_word (word_walk k ws)
   rest_walk (fresh n) k ws = past_word (word_walk k ws)
   rest_walk (apply f ts) k ws = pair_walk ts (parts_walk ts) (args_walk ts) k ws
+
+-- without the sign of a persistent fact
+abbrev pub unsigned_fact : List Word → List Word
+unsigned_fact ws = if starts (codes "!") ws then drop 1 ws else ws
+
+-- through a fact: its name, and these arguments
+unfoldable pub fact_walk : List Tree → ℕ → List Word → Walk
+fact_walk ts k ws = onward (past_node k (unsigned_fact ws) (drop 2 (unsigned_fact ws))) (args_walk (trees_of ts))
+
+-- through facts, each with the mark behind it
+unfoldable pub facts_walk : List Fact → ℕ → List Word → Walk
+facts_walk [] k ws = Ok (k, ws)
+facts_walk (f ∷ fs) k ws = onward (past_word (fact_walk f.args k ws)) (facts_walk fs)
+
+-- and past the mark where there are none
+abbrev pub all_facts_walk : List Fact → ℕ → List Word → Walk
+all_facts_walk [] k ws = Ok (k, drop 1 ws)
+all_facts_walk (f ∷ fs) k ws = facts_walk (f ∷ fs) k ws
 
 -- the answer is what the walk comes to
 abbrev pub Comes : List ℕ → Result (ℕ × Bor (List Token)) ℕ → Walk → Type 0
