@@ -1,5 +1,6 @@
 -- Through the use of a name.
-use Rattle.std.proofs.Common.{◌≡◌, ◌<◌, ℕ, zero, suc, ◌-◌, true, false, List, [], ◌∷◌, length, take, drop, Option, Some, refl, sym, ap, subst, ◌∙◌, arith}
+use Rattle.std.proofs.Common.{◌≡◌, ◌<◌, ℕ, zero, suc, ◌+◌, true, false, List, [], ◌∷◌, ◌++◌, length, map, reverse, take, drop, Option, Some, refl, sym, ap, subst, ◌∙◌, arith}
+use Rattle.std.proofs.lemmas.List.{map_push, reverse-append}
 use Rattle.std.specs.Prelude.{slice_get, slice_index_or}
 use Rattle.std.specs.Borrow.{Bor}
 use Rattle.std.proofs.lemmas.Option.{slice_get_within}
@@ -16,7 +17,9 @@ use Rattle.sap_macro.specs.declared.source.Source.{Source}
 use Rattle.sap_origin.specs.Definitions.{LocatedDefinition, located_definitions}
 use Rattle.sap_origin.specs.Meant as meant
 use Rattle.sap_origin.specs.Reached.{Reaches, Standing, entered}
+use Rattle.sap_origin.specs.Origins.{words_left}
 use Rattle.sap_origin.specs.code.Steps.{AreSame, GoesOn, IsWithin, StandsSo}
+use Rattle.sap_origin.specs.declared.origin.FileWord.{FileWord}
 use Rattle.sap_origin.specs.declared.origin.Here.{Here}
 use Rattle.sap_origin.proofs.Ordered.{before_bound, body_uses, stands_at, stands_nowhere}
 use Rattle.sap_origin.proofs.Plain.{IsPlain}
@@ -32,8 +35,12 @@ at_plain [] k d e = absurd (cc (e))
 at_plain (c ∷ ds) zero d e = let is : c ≡ d = cc (e) in rw is refl
 at_plain (c ∷ ds) (suc k) d e = at_plain ds k d e
 
+-- a use more is the innermost
+noted_words : (us : List FileWord) (u : FileWord) → reverse (map words_left (us ++ u ∷ [])) ≡ words_left u ∷ reverse (map words_left us)
+noted_words us u = ap reverse (map_push words_left us u) ∙ reverse-append (map words_left us) (words_left u ∷ [])
+
 module _ (law : IsPlain) (defs : List Definition) (ns : List ℕ) (order : AreInOrder [] (definitions defs)) (count : length ns ≡ length defs) (h : Here) (left : ℕ) (f : List ℕ) (ts : List Tree)
-    (is : located h.source.now ≡ call_at left f ts) (path : List ℕ) (s : Standing) (so : StandsSo s h) (within : IsWithin (definitions defs) path h) where
+    (is : located h.source.now ≡ call_at left f ts) (path : List ℕ) (s : Standing) (us : List FileWord) (so : StandsSo s us h) (within : IsWithin (definitions defs) path h) where
   -- what nothing defines leads nowhere
   pub undefined : is_known (defined (definitions defs)) f ≡ false → (z : Standing) (w : Located) → Reaches (located_definitions defs ns) s (located h.source.now) (drop h.at path) z w → ⊥
   undefined none = subst (λ (p : Located). (z : Standing) (w : Located) → Reaches (located_definitions defs ns) s p (drop h.at path) z w → ⊥) (sym is)
@@ -66,11 +73,16 @@ module _ (law : IsPlain) (defs : List Definition) (ns : List ℕ) (order : AreIn
         before_bound [] (definitions defs) h.bound k (definition_of d) order (at_plain defs k d at)
         (subst (λ (g : List ℕ). is_known (defined (take h.bound (definitions defs))) g ≡ true) (sym name_is) known)
 
-    pub goes_through : GoesOn (definitions defs) (located_definitions defs ns) path s h
-        (record { source = r; behind = slice_index_or ns k 0; used = Some (record { left = left; behind = h.behind }); bound = k; at = h.at })
+    pub goes_through : GoesOn (definitions defs) (located_definitions defs ns) path s us h (Some (record { left = left; behind = h.behind }))
+        (record { source = r; behind = slice_index_or ns k 0; bound = k; at = h.at })
     goes_through = record {
       standing = entered s left there;
-      stands = record { behind_is = refl; used_is = rw so.behind_is refl };
+      stands = record {
+        behind_is = refl;
+        uses_are =
+            noted_words us (record { left = left; behind = h.behind }) ∙ ap (λ (n : ℕ). (left + n) ∷ reverse (map words_left us)) (sym so.behind_is)
+            ∙ ap (λ (ns : List ℕ). (left + s.behind) ∷ ns) so.uses_are;
+      };
       within = record {
         uses = subst (λ (b : Source). UsesOnly (defined (take k (definitions defs))) (written b)) (sym body)
             (body_uses [] (definitions defs) k (definition_of d) (defined (take k (definitions defs))) order (at_plain defs k d at) (λ g none. absurd (cc (none))) (λ g known. known));

@@ -1,6 +1,6 @@
 -- Steps along a path.
-use Rattle.std.proofs.Common.{◌≡◌, ◌<◌, ◌≤◌, ℕ, suc, ◌+◌, ◌-◌, List, [], ◌∷◌, length, drop, take, Option, Some, None, refl, sym, ap, subst, ◌∙◌, arith}
-use Rattle.std.specs.Prelude.{option_map, slice_index_or}
+use Rattle.std.proofs.Common.{◌≡◌, ◌<◌, ◌≤◌, ℕ, suc, ◌+◌, List, [], ◌∷◌, length, drop, take, Option, Some, None, refl, sym, subst, ◌∙◌, arith}
+use Rattle.std.specs.Prelude.{slice_index_or}
 use Rattle.std.proofs.Common.{add-one, drop-cons}
 use Rattle.std.proofs.lemmas.Grind.{common_steps}
 use Rattle.sap_terms.specs.Tree.{Tree}
@@ -13,9 +13,10 @@ use Rattle.sap_macro.specs.declared.source.Source.{Source}
 use Rattle.sap_macro.specs.Written.{Definition}
 use Rattle.sap_origin.specs.Definitions.{LocatedDefinition}
 use Rattle.sap_origin.specs.Meant.{definition_of}
-use Rattle.sap_origin.specs.Origins.{start, words_left}
+use Rattle.sap_origin.specs.Origins.{start}
 use Rattle.sap_origin.specs.Reached.{IsForm, Reaches, reaches_here, reaches_use, reaches_left, reaches_right, reaches_copy, reaches_behind, reaches_then, reaches_else, reaches_found, reaches_missing, Standing, entered, number_of}
 use Rattle.sap_origin.specs.code.Steps.{AreSame, IsOn, Tells, way_of, IsBelow, is_left, is_right, is_copy, is_behind, is_then, is_else, is_found, is_missing, IsWithin, StandsSo, StepsTo, way_left}
+use Rattle.sap_origin.specs.declared.origin.FileWord.{FileWord}
 use Rattle.sap_origin.specs.declared.origin.Here.{Here}
 use Rattle.sap_origin.specs.declared.origin.Step.{Step}
 use Rattle.sap_origin.specs.declared.origin.Step.TheVariants.{There, Nowhere, On}
@@ -108,35 +109,37 @@ module _ (ds : List LocatedDefinition) where
   same_on one two = record { to = λ z w h. two.to z w (one.to z w h); from = λ z w h. one.from z w (two.from z w h) }
 
   module _ (es : List Definition) (path : List ℕ) (behind : ℕ) (p : Located) where
-    pub tells_next : (h : Here) (r : Step) → IsOn es ds path behind p h → ((s : Standing) → StandsSo s h → IsWithin es path h → StepsTo es ds path s h r) → Tells es ds path behind p r
-    tells_next h (There o) on step =
+    pub tells_next : (us : List FileWord) (h : Here) (r : Step) → IsOn es ds path behind p us h
+        → ((s : Standing) (vs : List FileWord) → StandsSo s vs h → IsWithin es path h → StepsTo es ds path s vs h r) → Tells es ds path behind p us r
+    tells_next us h (There w) on step =
         let s = on.standing in
-        let told = step s on.stands on.within in
+        let told = step s us on.stands on.within in
         let place = located h.source.now in
-        let left : o.word.left ≡ number_of place = told.2 in
-        let behind_is : o.word.behind ≡ s.behind = told.3 ∙ sym on.stands.behind_is in
+        let left : w.left ≡ number_of place = told.2 in
+        let behind_is : w.behind ≡ s.behind = told.3 ∙ sym on.stands.behind_is in
         record {
           standing = s;
           place = place;
           reaches = on.same.from s place (subst (λ (rest : List ℕ). Reaches ds s place rest s place) (sym told.1) (reaches_here told.0));
           word_is = rw (left, behind_is) refl;
-          used_is = ap (option_map words_left) told.4 ∙ sym on.stands.used_is;
+          uses_are = on.stands.uses_are;
         }
-    tells_next h Nowhere on step = λ z w r. step on.standing on.stands on.within z w (on.same.to z w r)
-    tells_next h (On n) on step =
-        let further = step on.standing on.stands on.within in
+    tells_next us h Nowhere on step = λ z w r. step on.standing us on.stands on.within z w (on.same.to z w r)
+    tells_next us h (On u n) on step =
+        let further = step on.standing us on.stands on.within in
         record { standing = further.standing; stands = further.stands; within = further.within; same = same_on on.same further.same }
 
-    pub way_smaller : (h : Here) (r : Step) → IsOn es ds path behind p h → ((s : Standing) → StandsSo s h → IsWithin es path h → StepsTo es ds path s h r) → way_of path r < suc (way_left path h)
-    way_smaller h (There o) on step = omega arith
-    way_smaller h Nowhere on step = omega arith
-    way_smaller h (On n) on step = let less = (step on.standing on.stands on.within).less in omega (arith, less)
+    pub way_smaller : (us : List FileWord) (h : Here) (r : Step) → IsOn es ds path behind p us h
+        → ((s : Standing) (vs : List FileWord) → StandsSo s vs h → IsWithin es path h → StepsTo es ds path s vs h r) → way_of path r < suc (way_left path h)
+    way_smaller us h (There w) on step = omega arith
+    way_smaller us h Nowhere on step = omega arith
+    way_smaller us h (On u n) on step = let less = (step on.standing us on.stands on.within).less in omega (arith, less)
 
   pub begins_on : (es : List Definition) (path : List ℕ) (behind : ℕ) (r : Bor Source) (n : ℕ) → n ≡ length es → UsesOnly (defined es) (written r.now)
-      → IsOn es ds path behind (located r.now) (record { source = r; behind = behind; used = None; bound = n; at = 0 })
+      → IsOn es ds path behind (located r.now) [] (record { source = r; behind = behind; bound = n; at = 0 })
   begins_on es path behind r n all uses = record {
     standing = start behind;
-    stands = record { behind_is = refl; used_is = refl };
+    stands = record { behind_is = refl; uses_are = refl };
     within = record {
       uses = subst (λ (ds : List Definition). UsesOnly (defined ds) (written r.now)) (sym (take_whole es n all)) uses;
       bounded = omega (arith, all);

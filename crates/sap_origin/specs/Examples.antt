@@ -9,6 +9,8 @@ use Rattle.sap_macro.specs.UpToNames.{named}
 use Rattle.sap_origin.specs.Definitions.{LocatedDefinition}
 use Rattle.sap_origin.specs.Origins.{start}
 use Rattle.sap_origin.specs.Reached.{Reaches, Standing, number_of}
+use Rattle.sap_origin.specs.declared.origin.FileWord.{FileWord}
+use Rattle.sap_origin.specs.declared.origin.Origin.{Origin}
 
 -- 'a', and the names P and Q
 abbrev pub a : Tree
@@ -44,3 +46,13 @@ pub record ComesTo (path : List ℕ) (word : ℕ) (uses : List ℕ) : Type 0 whe
   pub reaches : Reaches both (start 1) small path standing place
   pub word_is : word ≡ number_of place + standing.behind
   pub uses_are : uses ≡ standing.uses
+
+-- the names of the uses of Q and of P, and the word of `out` in P through uses
+abbrev pub q_use : FileWord
+q_use = record { left = 6; behind = 1 }
+
+abbrev pub p_use : FileWord
+p_use = record { left = 4; behind = 9 }
+
+abbrev pub out_in_p : List FileWord → Origin
+out_in_p us = record { word = record { left = 4; behind = 16 }; uses = us }

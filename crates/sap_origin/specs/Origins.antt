@@ -1,5 +1,5 @@
--- The word that tells the place to which one comes along a path, and the name of the innermost use through which one comes.
-use Rattle.std.specs.Prelude.{◌≡◌, ℕ, ◌+◌, List, [], ◌∷◌, Option, Some, None, option_map}
+-- The word that tells the place to which one comes along a path, and the names of the uses through which one comes.
+use Rattle.std.specs.Prelude.{◌≡◌, ℕ, ◌+◌, List, [], map, reverse}
 use Rattle.sap_macro.specs.Located.{Located}
 use Rattle.sap_origin.specs.Definitions.{LocatedDefinition}
 use Rattle.sap_origin.specs.Reached.{Reaches, Standing, number_of}
@@ -10,21 +10,16 @@ use Rattle.sap_origin.specs.declared.origin.Origin.{Origin}
 abbrev pub words_left : FileWord → ℕ
 words_left w = w.left + w.behind
 
--- the innermost use
-abbrev pub innermost : List ℕ → Option ℕ
-innermost [] = None
-innermost (n ∷ ns) = Some n
-
 -- at the process behind whose item so many words of the file are
 abbrev pub start : ℕ → Standing
 start n = record { behind = n; uses = [] }
 
 -- along this path one comes, from a process behind whose item so many words of the file are, to a place that this word tells, through
--- uses of which the innermost has this name
+-- uses with these names and no others, the outermost first
 pub record IsOrigin (ds : List LocatedDefinition) (p : Located) (behind : ℕ) (path : List ℕ) (o : Origin)
     : Type 0 where
   pub standing : Standing
   pub place : Located
   pub reaches : Reaches ds (start behind) p path standing place
   pub word_is : words_left o.word ≡ number_of place + standing.behind
-  pub used_is : option_map words_left o.used ≡ innermost standing.uses
+  pub uses_are : reverse (map words_left o.uses) ≡ standing.uses

@@ -8,8 +8,9 @@ ghost use Rattle.sap_macro.specs.Order.{AreInOrder, UsesOnly};
 ghost use Rattle.sap_macro.specs.Sources.{definitions};
 ghost use Rattle.sap_macro.specs.declared.definition.Definition.{Definition};
 ghost use Rattle.sap_origin.specs.Definitions.{LocatedDefinition, located_definitions, plain_definition};
-ghost use Rattle.sap_origin.specs.Examples.{ComesTo};
+ghost use Rattle.sap_origin.specs.Examples.{ComesTo, both, out_in_p, p_use, q_use, small};
 ghost use Rattle.sap_origin.specs.Meant.{Means};
+ghost use Rattle.sap_origin.specs.Origins.{IsOrigin};
 ghost use Rattle.sap_origin.specs.Reached.{IsForm, Reaches, Standing, process_at};
 
 use sap_macro::{located_is_written, plain_names_stand_for_bodies};
@@ -61,5 +62,9 @@ pub fn places_by_hand()
     ensures no_fewer { (k : ℕ) → (ComesTo (1 ∷ []) k (13 ∷ []) → ⊥) × (ComesTo (1 ∷ []) k (7 ∷ []) → ⊥)
         × (ComesTo (1 ∷ []) k [] → ⊥) }
     ensures no_use_beside { (k : ℕ) → (ComesTo (2 ∷ []) k (7 ∷ []) → ⊥) × (ComesTo [] k (7 ∷ []) → ⊥) }
+    ensures origin { IsOrigin both small 1 (1 ∷ []) (out_in_p (q_use ∷ p_use ∷ [])) }
+    ensures no_origin { (IsOrigin both small 1 (1 ∷ []) (out_in_p (p_use ∷ q_use ∷ [])) → ⊥)
+        × (IsOrigin both small 1 (1 ∷ []) (out_in_p (p_use ∷ [])) → ⊥)
+        × (IsOrigin both small 1 (1 ∷ []) (out_in_p []) → ⊥) }
     ensures nowhere { (k : ℕ) (us : List ℕ) → (ComesTo (3 ∷ []) k us → ⊥) × (ComesTo (1 ∷ 2 ∷ []) k us → ⊥) }
 {}

@@ -1,5 +1,5 @@
 //! The written place to which one comes along a path.
-ghost use Rattle.std.specs.Prelude.{◌≡◌, ◌<◌, ℕ, List, [], length, MatchOption};
+ghost use Rattle.std.specs.Prelude.{◌≡◌, ◌<◌, ℕ, List, [], length, IfOk, MatchOption, OnOk};
 ghost use Rattle.sap_terms.specs.Tree.{Tree};
 ghost use Rattle.sap_macro.specs.Indexed.{AreIndexed, defined};
 ghost use Rattle.sap_macro.specs.Located.{Located, call_at};
@@ -9,10 +9,12 @@ ghost use Rattle.sap_macro.specs.Written.{Definition as PlainDefinition};
 ghost use Rattle.sap_origin.specs.Definitions.{LocatedDefinition, located_definitions};
 ghost use Rattle.sap_origin.specs.Origins.{IsOrigin, start};
 ghost use Rattle.sap_origin.specs.Reached.{IsForm, Reaches, Standing, number_of};
-ghost use Rattle.sap_origin.specs.code.Steps.{IsBelow, IsWithin, StandsSo, StepsTo};
+ghost use Rattle.sap_origin.specs.code.Steps.{IsBelow, IsWithin, StandsSo, StepsTo, noted};
+ghost use Rattle.sap_origin.specs.declared.origin.FileWord.{FileWord};
 
 use sap_macro::{DefinitionList, Index, Source, located_is_written};
-use sap_terms::Name;
+use sap_terms::{Items, Mem, Name};
+use std::alloc::Global;
 
 /// A word of a file: how many words of its item are left from it, and how many words of the file are behind the item.
 #[derive(Clone, Copy)]
@@ -21,30 +23,29 @@ pub struct FileWord {
     pub behind: usize,
 }
 
-/// The word that tells a place, and, where that is in the definition of a process, the name as which this is used, the innermost one.
-#[derive(Clone, Copy)]
+/// The word that tells a place, and the names of the uses through which one comes there, the outermost first.
+#[derive(Drop)]
 pub struct Origin {
     pub word: FileWord,
-    pub used: Option<FileWord>,
+    pub uses: Items<FileWord>,
 }
 
-/// Where a walk is: in a process behind whose item so many words of the file are, which is used so, and which uses the first definitions
-/// alone, before the bound; and how many digits it has gone.
+/// Where a walk is: in a process behind whose item so many words of the file are, and which uses the first definitions alone, before the
+/// bound; and how many digits it has gone.
 #[derive(Clone, Copy)]
 struct Here<'a> {
     source: &'a Source,
     behind: usize,
-    used: Option<FileWord>,
     bound: u64,
     at: usize,
 }
 
-/// Where it comes to by a step.
+/// Where it comes to by a step: to the place that this word tells, to nothing, or on, through a use of this name, if it is one.
 #[derive(Clone, Copy)]
 enum Step<'a> {
-    There(Origin),
+    There(FileWord),
     Nowhere,
-    On(Here<'a>),
+    On(Option<FileWord>, Here<'a>),
 }
 
 // The number of the place.
@@ -95,10 +96,10 @@ fn through_use<'a>(
     requires index { AreIndexed (definitions defs.now) index.now }
     requires count { length behind.now ≡ length defs.now }
     requires is { (ts : List Tree) × (located here.source.now ≡ call_at left name.now ts) }
-    ensures { (path : List ℕ) (s : Standing) → StandsSo s here.entry
+    ensures { (path : List ℕ) (s : Standing) (us : List FileWord) → StandsSo s us here.entry
         → IsWithin (definitions defs.now) path here.entry
-        → StepsTo (definitions defs.now) (located_definitions defs.now behind.now) path s here.entry
-        result }
+        → StepsTo (definitions defs.now) (located_definitions defs.now behind.now) path s us
+        here.entry result }
 {
     located_is_written();
     let word = FileWord {
@@ -107,40 +108,41 @@ fn through_use<'a>(
     };
     match index.get(name) {
         None => Step::Nowhere,
-        Some(k) => Step::On(Here {
-            source: &defs.at(*k).body,
-            behind: behind[*k as usize],
-            used: Some(word),
-            bound: *k,
-            at: here.at,
-        }),
+        Some(k) => Step::On(
+            Some(word),
+            Here {
+                source: &defs.at(*k).body,
+                behind: behind[*k as usize],
+                bound: *k,
+                at: here.at,
+            },
+        ),
     }
 }
 
 // From a form down along the next digit, if there is one.
 fn go_below<'a>(here: Here<'a>, path: &[u8]) -> Step<'a>
     requires { IsForm (located here.source.now) }
-    ensures { (es : List PlainDefinition) (ds : List LocatedDefinition) (s : Standing)
-        → StandsSo s here.entry → IsWithin es path.now here.entry → StepsTo es ds path.now s here.entry result }
+    ensures { (es : List PlainDefinition) (ds : List LocatedDefinition) (s : Standing) (us : List FileWord)
+        → StandsSo s us here.entry → IsWithin es path.now here.entry → StepsTo es ds path.now s us here.entry result }
 {
     if path.len() <= here.at {
-        return Step::There(Origin {
-            word: FileWord {
-                left: number_of(here.source),
-                behind: here.behind,
-            },
-            used: here.used,
+        return Step::There(FileWord {
+            left: number_of(here.source),
+            behind: here.behind,
         });
     }
     match below(here.source, path[here.at]) {
         None => Step::Nowhere,
-        Some(source) => Step::On(Here {
-            source,
-            behind: here.behind,
-            used: here.used,
-            bound: here.bound,
-            at: here.at + 1,
-        }),
+        Some(source) => Step::On(
+            None,
+            Here {
+                source,
+                behind: here.behind,
+                bound: here.bound,
+                at: here.at + 1,
+            },
+        ),
     }
 }
 
@@ -155,9 +157,10 @@ fn step_from<'a>(
     requires order { AreInOrder [] (definitions defs.now) }
     requires index { AreIndexed (definitions defs.now) index.now }
     requires count { length behind.now ≡ length defs.now }
-    ensures { (s : Standing) → StandsSo s here.entry → IsWithin (definitions defs.now) path.now here.entry
-        → StepsTo (definitions defs.now) (located_definitions defs.now behind.now) path.now s here.entry
-        result }
+    ensures { (s : Standing) (us : List FileWord) → StandsSo s us here.entry
+        → IsWithin (definitions defs.now) path.now here.entry
+        → StepsTo (definitions defs.now) (located_definitions defs.now behind.now) path.now s us
+        here.entry result }
 {
     match here.source {
         Source::Call(left, name, _) => through_use(defs, index, behind, here, *left, name),
@@ -165,41 +168,53 @@ fn step_from<'a>(
     }
 }
 
+// Notes the use through which a step goes, if it is one.
+fn note(uses: &mut Items<FileWord>, used: Option<FileWord>) -> Result<(), Mem>
+    ensures { OnOk result (uses.new ≡ noted uses.old used) }
+{
+    match used {
+        Some(word) => uses.push(word),
+        None => Ok(()),
+    }
+}
+
 /// The word that tells the written place to which one comes along the path from this process, behind whose item so many words of the file
-/// are, and the innermost use through which one comes; `None` where one comes nowhere. `behind` has how many words of the file are behind
-/// the item of each definition; `index` is what `index_of` gives of the definitions. It takes no memory, and time in proportion to the
-/// path and to the uses on the way, where each name is looked for by its order.
+/// are, and the uses through which one comes; `None` where one comes nowhere. `behind` has how many words of the file are behind the item
+/// of each definition; `index` is what `index_of` gives of the definitions. Want of memory is the only error. It takes time in proportion
+/// to the path and to the uses on the way, where each name is looked for by its order.
 pub fn origin_of(
+    alloc: Global,
     defs: &DefinitionList,
     index: &Index,
     behind: &[usize],
     main: &Source,
     behind_main: usize,
     path: &[u8],
-) -> Option<Origin>
+) -> Result<Option<Origin>, Mem>
     requires order { AreInOrder [] (definitions defs.now) }
     requires index { AreIndexed (definitions defs.now) index.now }
     requires count { length behind.now ≡ length defs.now }
     requires uses { UsesOnly (defined (definitions defs.now)) (written main.now) }
-    ensures { MatchOption result
+    ensures { IfOk result (λ r. MatchOption r
         ((z : Standing) (q : Located) → Reaches (located_definitions defs.now behind.now)
         (start behind_main) (located main.now) path.now z q → ⊥)
         (λ o. IsOrigin (located_definitions defs.now behind.now) (located main.now) behind_main
-        path.now o) }
+        path.now o)) }
 {
     let here = Here {
         source: main,
         behind: behind_main,
-        used: None,
         bound: defs.len(),
         at: 0,
     };
+    let mut uses = Items::new(alloc);
     let mut step = step_from(defs, index, behind, path, here);
-    while let Step::On(next) = step {
+    while let Step::On(used, next) = step {
+        note(&mut uses, used)?;
         step = step_from(defs, index, behind, path, next);
     }
     match step {
-        Step::There(origin) => Some(origin),
-        _ => None,
+        Step::There(word) => Ok(Some(Origin { word, uses })),
+        _ => Ok(None),
     }
 }

@@ -1,5 +1,5 @@
 -- One step on the way along a path.
-use Rattle.std.specs.Prelude.{◌≡◌, ◌<◌, ◌≤◌, ℕ, suc, ◌+◌, ◌-◌, List, [], drop, length, take, option_map}
+use Rattle.std.specs.Prelude.{◌≡◌, ◌<◌, ◌≤◌, ℕ, suc, ◌+◌, ◌-◌, List, [], ◌∷◌, ◌++◌, Option, Some, None, drop, length, map, reverse, take}
 use Rattle.sap_terms.specs.Tree.{Tree}
 use Rattle.sap_terms.specs.declared.var.Var.{Var}
 use Rattle.sap_process.specs.Action.{Action}
@@ -9,8 +9,9 @@ use Rattle.sap_macro.specs.Order.{UsesOnly}
 use Rattle.sap_macro.specs.Sources.{located, written}
 use Rattle.sap_macro.specs.Written.{Definition}
 use Rattle.sap_origin.specs.Definitions.{LocatedDefinition}
-use Rattle.sap_origin.specs.Origins.{IsOrigin, innermost, start, words_left}
+use Rattle.sap_origin.specs.Origins.{IsOrigin, start, words_left}
 use Rattle.sap_origin.specs.Reached.{IsForm, Reaches, Standing, number_of}
+use Rattle.sap_origin.specs.declared.origin.FileWord.{FileWord}
 use Rattle.sap_origin.specs.declared.origin.Here.{Here}
 use Rattle.sap_origin.specs.declared.origin.Step.{Step}
 use Rattle.sap_origin.specs.declared.origin.Step.TheVariants.{There, Nowhere, On}
@@ -26,10 +27,15 @@ pub data IsBelow : Located → ℕ → Located → Type 0 where
   is_found : {k : ℕ} {t : Tree} {x : Var} {p q : Located} → IsBelow (lookup_at k t x p q) 1 p
   is_missing : {k : ℕ} {t : Tree} {x : Var} {p q : Located} → IsBelow (lookup_at k t x p q) 2 q
 
--- the walk stands so
-pub record StandsSo (s : Standing) (h : Here) : Type 0 where
+-- these uses, and behind them this one, if there is one
+abbrev pub noted : List FileWord → Option FileWord → List FileWord
+noted us None = us
+noted us (Some u) = us ++ u ∷ []
+
+-- the walk stands so, behind these uses
+pub record StandsSo (s : Standing) (us : List FileWord) (h : Here) : Type 0 where
   pub behind_is : s.behind ≡ h.behind
-  pub used_is : innermost s.uses ≡ option_map words_left h.used
+  pub uses_are : reverse (map words_left us) ≡ s.uses
 
 -- it is in a process that uses the first definitions alone, before the bound
 pub record IsWithin (es : List Definition) (path : List ℕ) (h : Here) : Type 0 where
@@ -47,42 +53,42 @@ pub record AreSame (ds : List LocatedDefinition) (s : Standing) (p : Located) (p
   pub to : (z : Standing) (w : Located) → Reaches ds s p path z w → Reaches ds t q rest z w
   pub from : (z : Standing) (w : Located) → Reaches ds t q rest z w → Reaches ds s p path z w
 
--- a step further
-pub record GoesOn (es : List Definition) (ds : List LocatedDefinition) (path : List ℕ) (s : Standing) (h n : Here)
-    : Type 0 where
+-- a step further, through this use, if it is one
+pub record GoesOn (es : List Definition) (ds : List LocatedDefinition) (path : List ℕ) (s : Standing)
+    (us : List FileWord) (h : Here) (u : Option FileWord) (n : Here) : Type 0 where
   pub standing : Standing
-  pub stands : StandsSo standing n
+  pub stands : StandsSo standing (noted us u) n
   pub within : IsWithin es path n
   pub same : AreSame ds s (located h.source.now) (drop h.at path) standing (located n.source.now)
       (drop n.at path)
   pub less : way_left path n < way_left path h
 
 -- where a step from here comes to
-abbrev pub StepsTo : List Definition → List LocatedDefinition → List ℕ → Standing → Here → Step → Type 0
-StepsTo es ds path s h (There o) =
-    IsForm (located h.source.now) × (drop h.at path ≡ []) × (o.word.left ≡ number_of (located h.source.now))
-    × (o.word.behind ≡ h.behind) × (o.used ≡ h.used)
-StepsTo es ds path s h Nowhere =
+abbrev pub StepsTo : List Definition → List LocatedDefinition → List ℕ → Standing → List FileWord → Here → Step → Type 0
+StepsTo es ds path s us h (There w) =
+    IsForm (located h.source.now) × (drop h.at path ≡ []) × (w.left ≡ number_of (located h.source.now))
+    × (w.behind ≡ h.behind)
+StepsTo es ds path s us h Nowhere =
     (z : Standing) (w : Located) → Reaches ds s (located h.source.now) (drop h.at path) z w → ⊥
-StepsTo es ds path s h (On n) = GoesOn es ds path s h n
+StepsTo es ds path s us h (On u n) = GoesOn es ds path s us h u n
 
--- from the process at the root one comes to the same places as from here
-pub record IsOn (es : List Definition) (ds : List LocatedDefinition) (path : List ℕ) (behind : ℕ) (p : Located) (h : Here)
-    : Type 0 where
+-- from the process at the root one comes to the same places as from here, behind these uses
+pub record IsOn (es : List Definition) (ds : List LocatedDefinition) (path : List ℕ) (behind : ℕ) (p : Located)
+    (us : List FileWord) (h : Here) : Type 0 where
   pub standing : Standing
-  pub stands : StandsSo standing h
+  pub stands : StandsSo standing us h
   pub within : IsWithin es path h
   pub same : AreSame ds (start behind) p path standing (located h.source.now) (drop h.at path)
 
--- what a step tells of the whole path
-abbrev pub Tells : List Definition → List LocatedDefinition → List ℕ → ℕ → Located → Step → Type 0
-Tells es ds path behind p (There o) = IsOrigin ds p behind path o
-Tells es ds path behind p Nowhere =
+-- what a step behind these uses tells of the whole path
+abbrev pub Tells : List Definition → List LocatedDefinition → List ℕ → ℕ → Located → List FileWord → Step → Type 0
+Tells es ds path behind p us (There w) = IsOrigin ds p behind path (record { word = w; uses = us })
+Tells es ds path behind p us Nowhere =
     (z : Standing) (w : Located) → Reaches ds (start behind) p path z w → ⊥
-Tells es ds path behind p (On h) = IsOn es ds path behind p h
+Tells es ds path behind p us (On u h) = IsOn es ds path behind p (noted us u) h
 
 -- the way that is left behind a step, at most
 abbrev pub way_of : List ℕ → Step → ℕ
-way_of path (There o) = 0
+way_of path (There w) = 0
 way_of path Nowhere = 0
-way_of path (On h) = suc (way_left path h)
+way_of path (On u h) = suc (way_left path h)

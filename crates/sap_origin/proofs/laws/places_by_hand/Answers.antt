@@ -1,7 +1,9 @@
 use Rattle.std.proofs.Common.{◌≡◌, ℕ, ◌+◌, List, [], ◌∷◌, refl, sym, ap, ◌∙◌, arith}
 use Rattle.sap_macro.specs.Located.{Located, call_at}
-use Rattle.sap_origin.specs.Examples.{ComesTo, both, p_body, p_is, q_is, q_name, small}
-use Rattle.sap_origin.specs.Origins.{start}
+use Rattle.std.specs.Prelude.{map, reverse}
+use Rattle.sap_origin.specs.Examples.{ComesTo, both, out_in_p, p_body, p_is, p_use, q_is, q_name, q_use, small}
+use Rattle.sap_origin.specs.Origins.{IsOrigin, start, words_left}
+use Rattle.sap_origin.specs.declared.origin.FileWord.{FileWord}
 use Rattle.sap_origin.specs.Reached.{Reaches, Standing, number_of, reaches_here, reaches_use, reaches_left, reaches_right, reaches_behind}
 use Rattle.sap_origin.proofs.OneReach.{one_reach}
 use Rattle.sap_origin.proofs.Walked.{through}
@@ -77,6 +79,21 @@ returns-clause-no_fewer c = λ k. (other_uses (13 ∷ []) through_both (λ e. cc
 
 pub returns-clause-no_use_beside : goal.returns-clause-no_use_beside
 returns-clause-no_use_beside c = λ k. (other_uses (7 ∷ []) beside (λ e. cc (e)), other_uses (7 ∷ []) sign (λ e. cc (e)))
+
+pub returns-clause-origin : goal.returns-clause-origin
+returns-clause-origin c =
+    record { standing = _; place = _; reaches = reaches_left (reaches_use refl (reaches_use refl (reaches_here tt))); word_is = refl; uses_are = refl }
+
+-- so it is a place to which one comes through these uses
+as_place : (us : List FileWord) → IsOrigin both small 1 (1 ∷ []) (out_in_p us) → ComesTo (1 ∷ []) 20 (reverse (map words_left us))
+as_place us o = record { standing = o.standing; place = o.place; reaches = o.reaches; word_is = o.word_is; uses_are = o.uses_are }
+
+pub returns-clause-no_origin : goal.returns-clause-no_origin
+returns-clause-no_origin c = (
+  (λ o. other_uses (7 ∷ 13 ∷ []) through_both (λ e. cc (e)) (as_place (p_use ∷ q_use ∷ []) o)),
+  (λ o. other_uses (13 ∷ []) through_both (λ e. cc (e)) (as_place (p_use ∷ []) o)),
+  (λ o. other_uses [] through_both (λ e. cc (e)) (as_place [] o)),
+)
 
 pub returns-clause-nowhere : goal.returns-clause-nowhere
 returns-clause-nowhere c = λ k us. ((λ h. no_third_digit h.reaches), (λ h. no_second h.reaches))

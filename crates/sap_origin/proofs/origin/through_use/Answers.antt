@@ -8,17 +8,17 @@ use Rattle.sap_origin.proofs.Uses.{goes_through, undefined}
 use Rattle.sap_origin.proofs.origin.through_use.Goals as goal
 
 pub returns-in-None : goal.returns-in-None
-returns-in-None c = λ path s so within.
+returns-in-None c = λ path s us so within.
     let f = c.args.name.now in
     let none : value_at c.args.index.now f ≡ None = sym c.get.ensures ∙ ap option_copied c.in-None.is in
     let unknown : is_known (defined (definitions c.args.defs.now)) f ≡ false = subst (λ (o : Option ℕ). IsIndex (definitions c.args.defs.now) f o) none (c.requires.index f) in
-    undefined c.located_is_written.ensures c.args.defs.now c.args.behind.now c.requires.order c.requires.count c.args.here c.args.left f c.requires.is.0 c.requires.is.1 path s so within unknown
+    undefined c.located_is_written.ensures c.args.defs.now c.args.behind.now c.requires.order c.requires.count c.args.here c.args.left f c.requires.is.0 c.requires.is.1 path s us so within unknown
 
 pub returns-in-Some : goal.returns-in-Some
-returns-in-Some c = λ path s so within.
+returns-in-Some c = λ path s us so within.
     let f = c.args.name.now in
     let k = c.in-Some.k.now in
     let some : value_at c.args.index.now f ≡ Some k = sym c.get.ensures ∙ ap option_copied c.in-Some.is in
     let index : IsIndex (definitions c.args.defs.now) f (Some k) = subst (λ (o : Option ℕ). IsIndex (definitions c.args.defs.now) f o) some (c.requires.index f) in
-    goes_through c.located_is_written.ensures c.args.defs.now c.args.behind.now c.requires.order c.requires.count c.args.here c.args.left f c.requires.is.0 c.requires.is.1 path s so within
+    goes_through c.located_is_written.ensures c.args.defs.now c.args.behind.now c.requires.order c.requires.count c.args.here c.args.left f c.requires.is.0 c.requires.is.1 path s us so within
     k c.at.result.now c.at.ensures index c.deref.result c.deref.ensures
