@@ -9,8 +9,11 @@ pub mod Caused
 pub mod Checked
 pub mod ItemsRead
 pub mod LocatedItems
+pub mod SpelledBodies
+pub mod BodiesRead
 pub mod ItemTurns
 pub mod OneFile
+pub mod OneParting
 pub mod SomeFile
 pub mod WrittenFiles
 pub mod Sizes

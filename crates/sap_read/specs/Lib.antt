@@ -23,6 +23,8 @@ pub mod Identifiers
 pub mod FileProcess
 pub mod Causes
 pub mod Files
+pub mod SpelledBodies
+pub mod UndefinedNames
 pub mod WrittenFiles
 pub mod Occurring
 pub mod HeldVariables
@@ -32,5 +34,6 @@ pub mod Printable
 pub mod OwnNames
 pub mod CauseExamples
 pub mod FileExamples
+pub mod UndefinedExamples
 pub mod VariableExamples
 pub mod code

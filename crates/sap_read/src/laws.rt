@@ -1,17 +1,18 @@
 //! Laws of files, as contracts of functions that do nothing but call those below.
-ghost use Rattle.std.specs.Prelude.{◌≡◌, ◌↔◌, ◌⊎◌, ◌≤◌, ◌^◌, ℕ, List, [], None, Some, Result, Ok, Err, length, map};
+ghost use Rattle.std.specs.Prelude.{◌≡◌, ◌↔◌, ◌⊎◌, ◌≤◌, ◌^◌, ℕ, codes, List, [], ◌∷◌, ◌++◌, None, Some, Contains, Result, Ok, Err, length, map};
 ghost use Rattle.sap_terms.specs.declared.fact.Fact.{Fact};
 ghost use Rattle.sap_terms.specs.Tree.{Tree, level_count};
 ghost use Rattle.sap_text.specs.declared.token.Token.{Token};
 ghost use Rattle.sap_terms.specs.Signature.{Sig};
 ghost use Rattle.sap_terms.specs.Trace.{Trace};
 ghost use Rattle.sap_locks.specs.Annotation.{IsAnnotation, unlabelled};
-ghost use Rattle.sap_grammar.specs.Words.{Word, words_of};
+ghost use Rattle.sap_grammar.specs.Words.{Word, mark, name, words_of};
 ghost use Rattle.sap_grammar.specs.TermGrammar.{IsTerm};
 ghost use Rattle.sap_grammar.specs.FactGrammar.{IsFact, fact_levels};
 ghost use Rattle.sap_read.specs.code.ProcessLaws.{ProcessLaws};
 ghost use Rattle.sap_macro.specs.Expansion.{plain};
-ghost use Rattle.sap_macro.specs.Order.{UsesOnly};
+ghost use Rattle.sap_macro.specs.Indexed.{defined};
+ghost use Rattle.sap_macro.specs.Order.{AreInOrder, UsesOnly};
 ghost use Rattle.sap_macro.specs.Replaced as replaced;
 ghost use Rattle.sap_macro.specs.Replaced.{AreWithoutParameters};
 ghost use Rattle.sap_macro.specs.UpToNames.{AreSameUpToNames};
@@ -30,7 +31,8 @@ ghost use Rattle.sap_read.specs.HeldVariables.{AreClosedBodies, HasClosedUses, H
 ghost use Rattle.sap_read.specs.Identifiers.{identifiers_of};
 ghost use Rattle.sap_read.specs.Item.{Body, Standing, bodies, signature_of};
 ghost use Rattle.sap_read.specs.Files.{FileContent, IsParted, IsRead, IsRunnable};
-ghost use Rattle.sap_read.specs.LocatedItems.{located_bodies, plain_body};
+ghost use Rattle.sap_read.specs.LocatedItems.{LocatedBody, located_bodies, plain_body};
+ghost use Rattle.sap_read.specs.SpelledBodies.{IsSpelledIn, item_end};
 ghost use Rattle.sap_read.specs.PlainFiles.{ArePlain};
 ghost use Rattle.sap_read.specs.Printable.{IsPrintableFile};
 ghost use Rattle.sap_uses.specs.FaultCauses.{Holds};
@@ -41,7 +43,9 @@ ghost use Rattle.sap_read.specs.OwnNames.{IsNamedApart};
 ghost use Rattle.sap_terms.specs.declared.limits.TheConstants.{MOST_FILE_NAME_BYTES};
 ghost use Rattle.sap_read.specs.declared.limits.TheConstants.{MOST_NEW_NAME_BYTES};
 ghost use Rattle.sap_process.specs.Ready.{IsReady};
+ghost use Rattle.sap_read.specs.WrittenFiles.{IsEarly};
 ghost use Rattle.sap_read.specs.declared.fault.ReadFault.{ReadFault};
+ghost use Rattle.sap_read.specs.declared.fault.ReadFault.TheVariants.{Mem as OutOfMemory};
 ghost use Rattle.sap_statements.specs.declared.statement.Statement.{Statement};
 ghost use Rattle.sap_statements.specs.Statements.{IsStatement};
 ghost use Rattle.sap_grammar.specs.declared.limits.Limits.{Limits};
@@ -251,6 +255,38 @@ pub fn one_list_of_items()
     statement_laws();
 }
 
+/// A law: bytes are tokens, and these are cut into items, in one way.
+pub fn one_parting()
+    ensures tokens { (z : List ℕ) (ts us : List Token) (x y : List ℕ) (cut other : List (List Placed))
+        → IsParted z ts x cut → IsParted z us y other → ts ≡ us }
+    ensures items { (z : List ℕ) (ts us : List Token) (x y : List ℕ) (cut other : List (List Placed))
+        → IsParted z ts x cut → IsParted z us y other → cut ≡ other }
+{
+    item_laws();
+    one_answer();
+}
+
+/// A law: where nothing refuses the items of a file before its uses are looked at, it is refused for no cause that is looked for before
+/// these.
+pub fn no_early_cause()
+    ensures { (z : List ℕ) (ts : List Token) (x : List ℕ) (cut : List (List Placed)) (is : List Standing)
+        (e : ReadFault) → IsParted z ts x cut → AreItems (signature_of is) cut is → cause_of is ≡ None
+        → IsEarly e → (e ≡ OutOfMemory → ⊥) → IsRead z (Err e) → ⊥ }
+{
+    item_laws();
+    process_laws();
+    statement_laws();
+    one_answer();
+}
+
+/// A law: where nothing refuses the items of a file before its uses are looked at, its definitions have names of their own, each uses
+/// earlier ones alone, and its process uses these.
+pub fn definitions_are_in_order()
+    ensures order { (is : List Standing) → cause_of is ≡ None → AreInOrder [] (definitions_of (bodies is)) }
+    ensures uses { (is : List Standing) (p : Written) → cause_of is ≡ None → main_of (bodies is) ≡ Some p
+        → UsesOnly (defined (definitions_of (bodies is))) p }
+{}
+
 /// A law: the items that words spell, with the words that tell the places of their processes, are without these words what the items
 /// say of processes; and however the same words spell them, they are the same.
 pub fn located_items()
@@ -261,6 +297,21 @@ pub fn located_items()
 {
     located_processes();
 }
+
+/// A law: what is said of processes by the items of a file is spelled by its words: a process by the last ones of its item, so that the
+/// words from any of its places on are the last so many of these.
+pub fn bodies_are_spelled()
+    ensures { (g : Sig) (z : List ℕ) (ts : List Token) (x : List ℕ) (cut : List (List Placed)) (is : List Standing) (b : LocatedBody)
+        → IsParted z ts x cut → (r : AreItems g cut is) → Contains (located_bodies r) b → IsSpelledIn g (words_of z ts) b }
+{}
+
+/// A law: of words that stand between others, as many as they are end the item in front of the last ones; and of the four words
+/// `process: P end` the last two of the item are `:` and `P`.
+pub fn item_ends()
+    ensures all { (front words rest : List Word) → item_end (front ++ (words ++ rest)) (length words) (length rest) ≡ words }
+    ensures by_hand { item_end (mark (codes "process") ∷ mark (codes ":") ∷ name (codes "P") ∷ mark (codes "end") ∷ []) 2 1
+        ≡ mark (codes ":") ∷ name (codes "P") ∷ [] }
+{}
 
 /// A law: a file that is read is written with some definitions and one process; bytes are written so in one way; and what the process
 /// shows as it is written, where a use runs as its definition's instance, the process that is read shows, and nothing else, where each

@@ -14,6 +14,7 @@ mod names;
 mod parameters;
 mod taken;
 mod terms;
+mod undefined;
 mod whole;
 mod written;
 
@@ -24,11 +25,12 @@ pub use by_hand::{
 pub use fault::ReadFault;
 pub use file::{File, read_file, read_file_boxed};
 pub use laws::{
-    file_processes_are_one, file_unless_refused, files_are_named_apart, files_are_printable,
-    files_are_ready, files_are_runnable, files_show_as_they_are_written,
-    files_without_parameters_are_as_written, grammar_is_one, identifiers_hold_variables,
-    labels_show_nothing, located_items, one_file, one_list_of_items, plain_files_need_no_instances,
-    some_file, used_definitions_are_closed,
+    bodies_are_spelled, definitions_are_in_order, file_processes_are_one, file_unless_refused,
+    files_are_named_apart, files_are_printable, files_are_ready, files_are_runnable,
+    files_show_as_they_are_written, files_without_parameters_are_as_written, grammar_is_one,
+    identifiers_hold_variables, item_ends, labels_show_nothing, located_items, no_early_cause,
+    one_file, one_list_of_items, one_parting, plain_files_need_no_instances, some_file,
+    used_definitions_are_closed,
 };
 pub use limits::MOST_NEW_NAME_BYTES;
 pub use sap_draft::{FILE_LIMITS, one_process, processes_by_hand};
@@ -36,4 +38,5 @@ pub use sap_formula_grammar::one_formula;
 pub use sap_grammar::{one_fact, one_term};
 pub use sap_statements::one_statement;
 pub use terms::{read_fact, read_formula, read_term};
+pub use undefined::{undefined_name, undefined_names, undefined_names_by_hand};
 pub use written::{FileProcesses, WrittenFile, written_file};
