@@ -1,0 +1,5 @@
+pub mod WrittenUses
+pub mod ExpandedUses
+pub mod Passing
+pub mod Examples
+pub mod code
