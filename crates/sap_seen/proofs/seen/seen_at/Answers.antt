@@ -1,0 +1,34 @@
+use Rattle.std.proofs.Common.{arith, List, [], subst, sym}
+use Rattle.std.proofs.lemmas.Grind.{common_steps}
+use Rattle.sap_macro.specs.Sources.{definitions, located}
+use Rattle.sap_origin.specs.Definitions.{located_definitions}
+use Rattle.sap_seen.specs.code.Steps.{Tells, noted}
+use Rattle.sap_origin.specs.declared.origin.FileWord.{FileWord}
+use Rattle.sap_seen.proofs.Walked.{begins_on, tells_next, way_smaller}
+use Rattle.sap_seen.proofs.seen.seen_at.Goals as goal
+
+pub loop-step-init : goal.loop-step-init
+loop-step-init c =
+    let ds = located_definitions c.args.defs.now c.args.behind.now in
+    let es = definitions c.args.defs.now in
+    let main = located c.args.body.now in
+    subst (λ (us : List FileWord). Tells es ds c.args.path.now c.args.behind_body main us c.step_from-step.result) (sym c.new-uses.ensures)
+    (tells_next ds es c.args.path.now c.args.behind_body main [] _ c.step_from-step.result
+    (begins_on ds es c.args.path.now c.args.behind_body c.args.body c.len.result (grind (arith, common_steps, c.len.ensures)) c.requires.uses) c.step_from-step.ensures)
+
+pub loop-step-preserved : goal.loop-step-preserved
+loop-step-preserved c =
+    let ds = located_definitions c.args.defs.now c.args.behind.now in
+    let es = definitions c.args.defs.now in
+    let main = located c.args.body.now in
+    subst (λ (us : List FileWord). Tells es ds c.args.path.now c.args.behind_body main us c.step_from-step-in-On.result) (sym c.in_ok-note.ensures)
+    (tells_next ds es c.args.path.now c.args.behind_body main (noted c.loop-step.uses c.in-On.used) c.in-On.next c.step_from-step-in-On.result
+    (rw c.in-On.is at c.loop-step.invariant) c.step_from-step-in-On.ensures)
+
+pub loop-step-smaller : goal.loop-step-smaller
+loop-step-smaller c =
+    let ds = located_definitions c.args.defs.now c.args.behind.now in
+    let es = definitions c.args.defs.now in
+    let main = located c.args.body.now in
+    rw c.in-On.is (way_smaller ds es c.args.path.now c.args.behind_body main (noted c.loop-step.uses c.in-On.used) c.in-On.next c.step_from-step-in-On.result
+    (rw c.in-On.is at c.loop-step.invariant) c.step_from-step-in-On.ensures)

@@ -1,0 +1,5 @@
+pub mod SeenPlaces
+pub mod SeenNodes
+pub mod SeenAt
+pub mod Examples
+pub mod code

@@ -1,0 +1,14 @@
+pub mod Pieces
+pub mod NodesIn
+pub mod LikeNodes
+pub mod Meant
+pub mod Found
+pub mod OneStem
+pub mod WrittenStems
+pub mod Ordered
+pub mod Walked
+pub mod Uses
+pub mod TrailUses
+pub mod MakingLemmas
+pub mod StemLinks
+pub mod StemUses

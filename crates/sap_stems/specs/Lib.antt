@@ -1,0 +1,10 @@
+pub mod WrittenNodes
+pub mod Stems
+pub mod UsesAlong
+pub mod StemsAt
+pub mod Trails
+pub mod StemOf
+pub mod WrittenPlaces
+pub mod Likeness
+pub mod Examples
+pub mod code
