@@ -1,0 +1,13 @@
+pub mod Bounds
+pub mod Seeking
+pub mod Behind
+pub mod Steps
+pub mod Reaches
+pub mod Counts
+pub mod Same
+pub mod ByHand
+pub mod StatementWords
+pub mod Few
+pub mod Faulty
+pub mod Near
+pub mod Stand

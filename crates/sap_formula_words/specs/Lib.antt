@@ -1,0 +1,4 @@
+pub mod PartWords
+pub mod StatementWords
+pub mod Examples
+pub mod code

@@ -1,0 +1,5 @@
+pub mod HeadWords
+pub mod HasHead
+pub mod NodeStands
+pub mod Examples
+pub mod code
