@@ -75,7 +75,7 @@ not_empty v vs e = absurd (cc)
 reached : (ws : List Word) (k : ℕ) (s : State) → reach start (take k ws) ≡ Some s → closes s.1 ≡ true → Reached (take k ws) s.0 s.1
 reached ws k s f c = record { goes = reach_goes start (take k ws) s f; close = c }
 
-computed : (ws : List Word) (k : ℕ) → k ≤ length ws → list_all is_lettered ws ≡ true → is_wrong_at ws k ≡ true → IsFirstWrong IsFileWords ws k
+pub computed : (ws : List Word) (k : ℕ) → k ≤ length ws → list_all is_lettered ws ≡ true → is_wrong_at ws k ≡ true → IsFirstWrong IsFileWords ws k
 computed ws k le l e = by (reach start (take k ws)) refl (drop k ws) refl e
   where
     stuck : (s : State) → reach start (take k ws) ≡ Some s → closes s.1 ≡ true → (rest : List Word) → drop k ws ≡ rest → is_stuck s rest ≡ true → IsFirstWrong IsFileWords ws k

@@ -34,3 +34,16 @@ pub mod SpelledItems
 pub mod LetteredTokens
 pub mod LevelsByHand
 pub mod NoLetter
+pub mod KindListed
+pub mod KindFollows
+pub mod KindWords
+pub mod KindNames
+pub mod KindRows
+pub mod KindReached
+pub mod KindTaken
+pub mod KindCover
+pub mod KindsByHand
+pub mod KindsOfFiles
+pub mod KindTexts
+pub mod OpenMarksWalk
+pub mod KindsAtLimits

@@ -4,4 +4,10 @@ pub mod FileWords
 pub mod Letters
 pub mod LevelExamples
 pub mod ItemExamples
+pub mod Kinds
+pub mod KindText
+pub mod MayStand
+pub mod OpenMarks
+pub mod OpenExamples
+pub mod KindExamples
 pub mod code

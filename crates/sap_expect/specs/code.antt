@@ -1,3 +1,4 @@
 -- What the code does, step by step: no public contract cites what stands below.
 pub mod Steps
 pub mod WantedView
+pub mod Going

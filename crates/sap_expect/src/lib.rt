@@ -2,16 +2,27 @@
 #![tactic(auto)]
 
 mod file_laws;
+mod kind;
+mod kind_laws;
+mod kind_text;
+mod kinds;
 mod laws;
 mod level_laws;
+mod may_stand;
+mod open_marks;
 mod part_laws;
 mod table;
 mod walk;
 mod wanted;
 
 pub use file_laws::{files_are_their_words, table_is_the_grammar};
+pub use kind::WordKind;
+pub use kind_laws::{kinds_are_what_may_stand, kinds_at_limits_by_hand, kinds_by_hand};
+pub use kind_text::{push_wanted, wanted_texts_by_hand};
 pub use laws::{items_by_hand, table_goes_on};
 pub use level_laws::levels_by_hand;
+pub use may_stand::wanted_kinds;
+pub use open_marks::{innermost_open, open_marks_by_hand};
 pub use part_laws::{
     facts_that_follow_are_spelled, formulas_that_follow_are_spelled, names_without_letters,
     processes_that_follow_are_spelled, terms_that_follow_are_spelled,

@@ -233,7 +233,7 @@ fn changed(change: Change, levels: u64, before: u64) -> Result<u64, Mem>
 }
 
 /// What is wanted, with the levels that it may have, or those of what had ended.
-type Open = (Wanted, u64);
+pub(crate) type Open = (Wanted, u64);
 
 // What is wanted in a part of at most `most` levels, where what ended last has these.
 fn opened(wanted: Wanted, most: u64, levels: u64) -> Open
@@ -261,9 +261,9 @@ fn push_all(stack: &mut Vec<Open>, wanted: &[Wanted], most: u64, levels: u64) ->
 
 // A walk over the words of a file: the levels of what ended last, and what is wanted, the first of it last.
 #[derive(Drop)]
-struct Walk {
-    levels: u64,
-    stack: Vec<Open>,
+pub(crate) struct Walk {
+    pub(crate) levels: u64,
+    pub(crate) stack: Vec<Open>,
 }
 
 impl Walk {
@@ -317,7 +317,7 @@ impl Walk {
     }
 
     // Takes the token, where it may stand next; what is wanted behind it is open then.
-    fn take(&mut self, bytes: &[u8], token: Token) -> Result<bool, Mem>
+    pub(crate) fn take(&mut self, bytes: &[u8], token: Token) -> Result<bool, Mem>
         ensures { IfOk result (λ b. Taken self.old.levels (stacked self.old.stack.items)
             (word_of bytes.now token) self.new.levels (stacked self.new.stack.items) b) }
     {

@@ -1,0 +1,212 @@
+//! What may stand behind words of a file.
+ghost use Rattle.std.specs.Prelude.{◌≡◌, List, [], ◌∷◌, ◌++◌, IfOk, OnOk, MatchOption, map};
+ghost use Rattle.std.specs.Bool.{Decides};
+ghost use Rattle.sap_text.specs.Spans.{AreTokens};
+ghost use Rattle.sap_grammar.specs.Words.{Word, words_of};
+ghost use Rattle.sap_expect.specs.Kinds.{kind_of, kinds as all_kinds, name_kinds, sign_kinds, wide_kinds, word_kinds};
+ghost use Rattle.sap_expect.specs.MayStand.{IsWantedList, MayStand};
+ghost use Rattle.sap_expect.specs.code.Going.{AreRowsNamed, Behind, CanGo, Each, IsRowNamed, KindRow as Row, StandsAt, kind_row_of, kind_rows, many_of, wide_words, witness_of, witnesses_of};
+ghost use Rattle.sap_expect.specs.code.WantedView.{stacked};
+
+use crate::kind::WordKind;
+use crate::kinds;
+use crate::kinds::{KindRow, Witness};
+use crate::walk::Walk;
+use crate::wanted::{Limit, Part, Wanted};
+use sap_terms::Mem;
+use sap_text::{Token, spans_are_tokens};
+use std::alloc::Global;
+
+fn copy_of(alloc: Global, walk: &Walk) -> Result<Walk, Mem>
+    ensures { IfOk result (λ w. (w.levels ≡ walk.now.levels) × (w.stack.items ≡ walk.now.stack.items)) }
+{
+    let mut stack = Vec::new(alloc);
+    stack.extend_from_slice(walk.stack.as_slice())?;
+    Ok(Walk {
+        levels: walk.levels,
+        stack,
+    })
+}
+
+// Whether the word may stand where the walk is.
+#[tactic(auto, using(crate::proofs::KindRows::taken_can))]
+fn goes_on(alloc: Global, walk: &Walk, word: Witness) -> Result<bool, Mem>
+    ensures { IfOk result (λ b. Decides b (CanGo walk.now.levels (stacked walk.now.stack.items) (witness_of word.entry))) }
+{
+    let bytes = word.1.as_bytes();
+    let token = Token {
+        kind: word.0,
+        from: 0,
+        to: bytes.len() as u64,
+        line: 1,
+    };
+    let mut on = copy_of(alloc, walk)?;
+    let taken = on.take(bytes, token)?;
+    Ok(taken)
+}
+
+// Whether each of the words may.
+fn all_go_on(alloc: Global, walk: &Walk, words: &[Witness]) -> Result<bool, Mem>
+    ensures { IfOk result (λ b. Decides b (Each (CanGo walk.now.levels (stacked walk.now.stack.items)) (witnesses_of words.now))) }
+{
+    for k in 0..words.len() {
+        if !goes_on(alloc, walk, words[k])? {
+            return Ok(false);
+        }
+    }
+    Ok(true)
+}
+
+// The words that stand for a kind, where it has more than one.
+fn words_for(kind: WordKind) -> &'static [Witness]
+    ensures { witnesses_of result.now ≡ wide_words (kind_of kind) }
+{
+    match kind {
+        WordKind::Item => kinds::ITEM,
+        WordKind::Process => kinds::PROCESS,
+        WordKind::Formula => kinds::FORMULA,
+        WordKind::Term => kinds::TERM,
+        WordKind::Name => kinds::NAME,
+        WordKind::Lower => kinds::SMALL,
+        WordKind::Upper => kinds::CAPITAL,
+        WordKind::Quoted => kinds::QUOTED,
+        WordKind::Arity => kinds::ARITY,
+        WordKind::Zero => kinds::ZERO,
+        WordKind::Mark(_) | WordKind::Named(_) => &[],
+    }
+}
+
+// Whether all words of the kind may.
+fn kind_goes_on(alloc: Global, walk: &Walk, kind: WordKind) -> Result<bool, Mem>
+    ensures { IfOk result (λ b. Decides b (Each (CanGo walk.now.levels (stacked walk.now.stack.items)) (wide_words (kind_of kind)))) }
+{
+    all_go_on(alloc, walk, words_for(kind))
+}
+
+// Whether of each of the kinds some word mayn't.
+fn none_goes_on(alloc: Global, walk: &Walk, kinds: &[WordKind]) -> Result<bool, Mem>
+    ensures { IfOk result (λ b. Decides b (Each (λ ws. Each (CanGo walk.now.levels (stacked walk.now.stack.items)) ws → ⊥) (many_of kinds.now))) }
+{
+    for k in 0..kinds.len() {
+        if kind_goes_on(alloc, walk, kinds[k])? {
+            return Ok(false);
+        }
+    }
+    Ok(true)
+}
+
+// Whether the kind is named.
+fn is_named(alloc: Global, walk: &Walk, row: &KindRow) -> Result<bool, Mem>
+    ensures { IfOk result (λ b. Decides b (IsRowNamed walk.now.levels (stacked walk.now.stack.items) (kind_row_of row.now))) }
+{
+    if all_go_on(alloc, walk, row.1)? {
+        none_goes_on(alloc, walk, row.2)
+    } else {
+        Ok(false)
+    }
+}
+
+fn wide_rows() -> &'static [KindRow]
+    ensures { map kind_row_of result.now ≡ kind_rows [] wide_kinds }
+{
+    kinds::WIDE_KINDS
+}
+
+fn sign_rows() -> &'static [KindRow]
+    ensures { map kind_row_of result.now ≡ kind_rows wide_kinds sign_kinds }
+{
+    kinds::SIGNS
+}
+
+fn word_rows() -> &'static [KindRow]
+    ensures { map kind_row_of result.now ≡ kind_rows (wide_kinds ++ sign_kinds) word_kinds }
+{
+    kinds::WORDS
+}
+
+fn name_rows() -> &'static [KindRow]
+    ensures { map kind_row_of result.now ≡ kind_rows ((wide_kinds ++ sign_kinds) ++ word_kinds) name_kinds }
+{
+    kinds::NAMES
+}
+
+// Puts last the kind of the row, if it is named.
+fn push_if_named(
+    alloc: Global,
+    list: &mut Vec<WordKind>,
+    walk: &Walk,
+    row: &KindRow,
+) -> Result<(), Mem>
+    ensures { OnOk result ((all rest : List Row) → Behind walk.now.levels (stacked walk.now.stack.items) all (kind_row_of row.now ∷ rest) (map kind_of list.old.items)
+        → Behind walk.now.levels (stacked walk.now.stack.items) all rest (map kind_of list.new.items)) }
+{
+    if is_named(alloc, walk, row)? {
+        list.push(row.0)?;
+        Ok(())
+    } else {
+        Ok(())
+    }
+}
+
+// Puts last the kinds of the rows that are named where the walk is.
+fn push_named(
+    alloc: Global,
+    list: &mut Vec<WordKind>,
+    walk: &Walk,
+    rows: &[KindRow],
+) -> Result<(), Mem>
+    ensures { OnOk result ((all rest : List Row) → Behind walk.now.levels (stacked walk.now.stack.items) all (map kind_row_of rows.now ++ rest) (map kind_of list.old.items)
+        → Behind walk.now.levels (stacked walk.now.stack.items) all rest (map kind_of list.new.items)) }
+{
+    for k in 0..rows.len() {
+        push_if_named(alloc, list, walk, &rows[k])?;
+    }
+    Ok(())
+}
+
+// The kinds that are named where the walk is.
+fn named_kinds(alloc: Global, walk: &Walk) -> Result<Vec<WordKind>, Mem>
+    ensures { IfOk result (λ v. AreRowsNamed walk.now.levels (stacked walk.now.stack.items) (kind_rows [] all_kinds) (map kind_of v.items)) }
+{
+    let mut list = Vec::new(alloc);
+    push_named(alloc, &mut list, walk, wide_rows())?;
+    push_named(alloc, &mut list, walk, sign_rows())?;
+    push_named(alloc, &mut list, walk, word_rows())?;
+    push_named(alloc, &mut list, walk, name_rows())?;
+    Ok(list)
+}
+
+// A walk behind the tokens, if they go on to a file's.
+fn walk_over(alloc: Global, bytes: &[u8], tokens: &[Token]) -> Result<Option<Walk>, Mem>
+    requires { AreTokens bytes.now tokens.now }
+    ensures { IfOk result (λ o. MatchOption o ((w : Word) → MayStand (words_of bytes.now tokens.now) w → ⊥)
+        (λ walk. StandsAt (words_of bytes.now tokens.now) walk.levels (stacked walk.stack.items))) }
+{
+    spans_are_tokens();
+    let mut walk = Walk {
+        levels: 0,
+        stack: Vec::new(alloc),
+    };
+    walk.stack.push((Wanted::A(Part::File, Limit::Same), 0))?;
+    for k in 0..tokens.len() {
+        if !walk.take(bytes, tokens[k])? {
+            return Ok(None);
+        }
+    }
+    Ok(Some(walk))
+}
+
+/// The kinds of the words that may stand behind these, in the order of one list: all words of such a kind may, and a kind that is part of
+/// one that is named isn't named again. None where no file begins with the words. Want of memory is the only error.
+pub fn wanted_kinds(alloc: Global, bytes: &[u8], tokens: &[Token]) -> Result<Vec<WordKind>, Mem>
+    requires { AreTokens bytes.now tokens.now }
+    ensures { IfOk result (λ v. IsWantedList (words_of bytes.now tokens.now) (map kind_of v.items)) }
+{
+    match walk_over(alloc, bytes, tokens)? {
+        None => Ok(Vec::new(alloc)),
+        Some(walk) => {
+            let list = named_kinds(alloc, &walk)?;
+            Ok(list)
+        }
+    }
+}
