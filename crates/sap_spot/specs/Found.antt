@@ -1,13 +1,9 @@
 -- Which word of a file a cause can speak of, and in which item it has to stand.
-use Rattle.std.specs.Prelude.{◌≡◌, ◌<◌, ◌≤◌, ℕ, Bool, true, false, ◌&&◌, ◌||◌, codes, List, [], ◌∷◌, length, drop, Option, Some, None, is_some, is_none, option_map}
+use Rattle.std.specs.Prelude.{◌≡◌, ◌<◌, ◌≤◌, ℕ, Bool, true, false, ◌&&◌, ◌||◌, codes, List, [], ◌∷◌, length, drop, Option, Some, None, is_some, option_map}
 use Rattle.sap_text.specs.declared.token.Token.{Token}
 use Rattle.sap_grammar.specs.Words.{Word, words_of, starts}
 use Rattle.sap_grammar.specs.Reading.{name_at, names}
 use Rattle.sap_grammar.specs.Cut.{is_item_word}
-use Rattle.sap_formula.specs.declared.fault.FormulaFault.{FormulaFault}
-use Rattle.sap_formula.specs.declared.fault.FormulaFault.TheVariants as formula
-use Rattle.sap_locks.specs.declared.fault.LockFault.{LockFault}
-use Rattle.sap_locks.specs.declared.fault.LockFault.TheVariants as lock
 use Rattle.sap_process.specs.declared.flaw.Flaw.{Flaw}
 use Rattle.sap_process.specs.declared.flaw.Flaw.TheVariants.{BadFunction, ReservedVar, ReservedFact, FactClash, PatternDestructor, Unbound, Rebound, SortClash, ScopeFull}
 use Rattle.sap_read.specs.declared.fault.ReadFault.{ReadFault}
@@ -62,26 +58,6 @@ flaw_fits Rebound ws = is_some (name_at ws)
 flaw_fits SortClash ws = is_some (name_at ws)
 flaw_fits ScopeFull ws = is_some (name_at ws) || starts (codes "lock") ws
 
--- it is the unlock, or the sign of a parallel or a replication
-abbrev pub lock_fits : LockFault → List Word → Bool
-lock_fits lock.Mem ws = false
-lock_fits (lock.UnlockWithoutLock path) ws = starts (codes "unlock") ws
-lock_fits (lock.LockOverParallel path) ws =
-    starts (codes "|") ws || starts (codes "||") ws || starts (codes "!") ws
-
--- what a fault of a formula names
-abbrev pub named_by : FormulaFault → Option (List ℕ)
-named_by formula.Mem = None
-named_by (formula.BadFunction f) = Some f
-named_by (formula.Destructor f) = Some f
-named_by (formula.Reserved x) = Some x
-named_by (formula.UnboundVar x) = Some x
-named_by (formula.Unguarded x) = Some x
-
--- the first word of these is this name in a definition or the file's process, which begins with those
-abbrev pub is_used : List ℕ → (here item : List Word) → Bool
-is_used x ws is = (starts (codes "process") is || starts (codes "let") is) && names x ws
-
 -- the cause can speak of the first of these words, which stands in the item of those, where a process is used so, if it is
 abbrev pub speaks : ReadFault → (here item : List Word) → (used : Option (List Word)) → Bool
 speaks Mem ws is u = false
@@ -94,17 +70,17 @@ speaks (UnknownProcess x) ws is u = false
 speaks (DuplicateName x) ws is u = false
 speaks (FunctionClash x) ws is u = false
 speaks (Parameters x) ws is u = false
-speaks (Arguments x) ws is u = is_none u && is_used x ws is
-speaks TooMany ws is u = begins_process u is
-speaks TooDeep ws is u = begins_process u is
-speaks (Large x) ws is u = is_none u && is_used x ws is
+speaks (Arguments x) ws is u = false
+speaks TooMany ws is u = false
+speaks TooDeep ws is u = false
+speaks (Large x) ws is u = false
 speaks (Flawed x w path) ws is u = begins_body x u is && flaw_fits w ws
 speaks (Ill w path) ws is u = begins_process u is && flaw_fits w ws
-speaks (Lock f) ws is u = begins_process u is && lock_fits f ws
-speaks (Formula y f) ws is u = is_none u && begins_statement y is && is_named (named_by f) ws
+speaks (Lock f) ws is u = false
+speaks (Formula y f) ws is u = false
 
 -- the word is one of which the cause can speak, in the file's process, in a definition whose name is used where it is told, or in the
--- restriction or lemma of the cause
+-- definition of the cause
 pub record IsWordOf (z : List ℕ) (ts : List Token) (e : ReadFault) (f : Found) : Type 0 where
   pub item : ℕ
   pub stands : StandsIn z ts item f.word

@@ -1,6 +1,5 @@
 -- Small items, and of which of their words a cause can speak.
 use Rattle.std.specs.Prelude.{ℕ, codes, List, [], ◌∷◌}
-use Rattle.sap_formula.specs.declared.fault.FormulaFault.{FormulaFault}
 use Rattle.sap_formula.specs.declared.fault.FormulaFault.TheVariants.{UnboundVar}
 use Rattle.sap_locks.specs.declared.fault.LockFault.TheVariants.{LockOverParallel, UnlockWithoutLock}
 use Rattle.sap_process.specs.declared.flaw.Flaw.{Flaw}
@@ -11,15 +10,12 @@ use Rattle.sap_text.specs.declared.token.Kind.TheVariants.{Ident, Symbol}
 use Rattle.sap_text.specs.declared.token.Token.{Token}
 use Rattle.sap_grammar.specs.Words.{Word, mark, name}
 
--- this flaw of the process, and of the definition of P; this fault of a lemma l
+-- this flaw of the process, and of the definition of P
 abbrev pub ill : Flaw → ReadFault
 ill w = Ill w []
 
 abbrev pub flawed : Flaw → ReadFault
 flawed w = Flawed (codes "P") w []
-
-abbrev pub faulty : FormulaFault → ReadFault
-faulty f = Formula (codes "l") f
 
 -- causes: an unlock without a lock, a lock over a parallel, a variable that isn't bound, too much in scope, a lemma with a variable x
 -- that isn't bound
@@ -36,9 +32,9 @@ abbrev pub full : ReadFault
 full = ill ScopeFull
 
 abbrev pub no_binder : ReadFault
-no_binder = faulty (UnboundVar (codes "x"))
+no_binder = Formula (codes "l") (UnboundVar (codes "x"))
 
--- one word; one name; the beginning of the definition of a name, of a lemma, of a restriction
+-- one word; one name; the beginning of the definition of a name, of a lemma
 abbrev pub word : List ℕ → List Word
 word m = mark m ∷ []
 
@@ -50,9 +46,6 @@ defines x = mark (codes "let") ∷ name x ∷ []
 
 abbrev pub lemma_of : List ℕ → List Word
 lemma_of x = mark (codes "lemma") ∷ name x ∷ []
-
-abbrev pub restriction_of : List ℕ → List Word
-restriction_of x = mark (codes "restriction") ∷ name x ∷ []
 
 -- a file's words: a definition of P, and a process
 abbrev pub two_items : List ℕ

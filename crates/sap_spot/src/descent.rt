@@ -1,10 +1,10 @@
-//! From the path of a place to the word that a flaw or a lock names there.
+//! From the path of a place to the word that a flaw names there.
 use crate::clash::clashing_fact;
 use crate::flaws::flawed_word;
 use crate::found::Found;
 use crate::layout::Definition;
 use crate::scope::Scope;
-use crate::spot::{Spot, below, called, head_at, head_word, process_at, settled};
+use crate::spot::{Spot, below, called, head_at, process_at, settled};
 use crate::words::Words;
 use sap_process::Flaw;
 use sap_terms::{Mem, Name, Path};
@@ -64,29 +64,23 @@ fn flawed_here(
     Ok(scope.beyond)
 }
 
-// The word that the flaw names at the place of this path below this process, or, without a flaw, by which the place is told.
+// The word that the flaw names at the place of this path below this process.
 fn found_below(
     words: &Words,
     scope: &mut Scope,
     root: Spot,
-    flaw: Option<Flaw>,
+    flaw: Flaw,
     path: &Path,
 ) -> Result<Option<Found>, Mem> {
-    match (descended(words, scope, root, path)?, flaw) {
-        (None, _) => Ok(None),
-        (Some(spot), None) => Ok(Some(head_word(words, spot))),
-        (Some(spot), Some(flaw)) => flawed_here(words, scope, spot, flaw),
+    match descended(words, scope, root, path)? {
+        None => Ok(None),
+        Some(spot) => flawed_here(words, scope, spot, flaw),
     }
 }
 
-/// The word that the flaw names at the place of this path, or with which too much is in its scope; without a flaw the word by which
-/// the place is told, its first or the sign of a parallel.
-pub(crate) fn found_at(
-    words: &Words,
-    flaw: Option<Flaw>,
-    path: &Path,
-) -> Result<Option<Found>, Mem> {
-    if flaw == Some(Flaw::FactClash) {
+/// The word that the flaw names at the place of this path, or with which too much is in its scope.
+pub(crate) fn found_at(words: &Words, flaw: Flaw, path: &Path) -> Result<Option<Found>, Mem> {
+    if flaw == Flaw::FactClash {
         return clashing_fact(words);
     }
     let root = process_at(words, words.layout.start)?;
@@ -103,7 +97,7 @@ fn found_in_body(
     path: &Path,
 ) -> Result<Option<Found>, Mem> {
     scope.bind_parameters(words, definition.item)?;
-    found_below(words, scope, definition.body, Some(flaw), path)
+    found_below(words, scope, definition.body, flaw, path)
 }
 
 /// The word that the flaw names at the place of this path in the process that this name is defined as.

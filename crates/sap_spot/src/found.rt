@@ -2,12 +2,10 @@
 ghost use Rattle.std.specs.Prelude.{◌≡◌, ◌↔◌, IsTrue, is_some, option_map, drop, List, ℕ};
 ghost use Rattle.sap_grammar.specs.Words.{words_of};
 ghost use Rattle.sap_grammar.specs.Reading.{name_at};
-ghost use Rattle.sap_spot.specs.Found.{IsWordOf, begins_body, begins_definition, begins_process, flaw_fits, is_named, is_used, lock_fits, named_by, speaks};
+ghost use Rattle.sap_spot.specs.Found.{IsWordOf, begins_body, begins_definition, begins_process, flaw_fits, speaks};
 
-use crate::items::{begins_definition, begins_statement, has_name, item_of};
-use sap_formula::FormulaFault;
+use crate::items::{begins_definition, item_of};
 use sap_grammar::{beyond, name_at, starts};
-use sap_locks::LockFault;
 use sap_process::Flaw;
 use sap_read::ReadFault;
 use sap_text::Token;
@@ -39,32 +37,6 @@ fn flaw_fits(bytes: &[u8], here: &[Token], flaw: Flaw) -> bool
     name_at(bytes, here).is_some() || (flaw == Flaw::ScopeFull && starts(bytes, here, "lock"))
 }
 
-fn lock_fits(bytes: &[u8], here: &[Token], fault: &LockFault) -> bool
-    ensures { result ≡ lock_fits fault.now (words_of bytes.now here.now) }
-{
-    match fault {
-        LockFault::Mem => false,
-        LockFault::UnlockWithoutLock { .. } => starts(bytes, here, "unlock"),
-        LockFault::LockOverParallel { .. } => {
-            starts(bytes, here, "|") || starts(bytes, here, "||") || starts(bytes, here, "!")
-        }
-    }
-}
-
-// Whether the word here is what the fault of a formula names.
-fn is_named_by(bytes: &[u8], here: &[Token], fault: &FormulaFault) -> bool
-    ensures { result ≡ is_named (named_by fault.now) (words_of bytes.now here.now) }
-{
-    match fault {
-        FormulaFault::Mem => false,
-        FormulaFault::BadFunction { f } => has_name(bytes, here, f.as_bytes()),
-        FormulaFault::Destructor { f } => has_name(bytes, here, f.as_bytes()),
-        FormulaFault::Reserved { fact } => has_name(bytes, here, fact.as_bytes()),
-        FormulaFault::UnboundVar { var } => has_name(bytes, here, var.as_bytes()),
-        FormulaFault::Unguarded { var } => has_name(bytes, here, var.as_bytes()),
-    }
-}
-
 fn begins_body(
     bytes: &[u8],
     tokens: &[Token],
@@ -81,13 +53,6 @@ fn begins_body(
     }
 }
 
-// Whether the word here is this name, in a definition or the file's process.
-fn is_used(bytes: &[u8], here: &[Token], item: &[Token], name: &[u8]) -> bool
-    ensures { result ≡ is_used name.now (words_of bytes.now here.now) (words_of bytes.now item.now) }
-{
-    (starts(bytes, item, "process") || starts(bytes, item, "let")) && has_name(bytes, here, name)
-}
-
 // Whether the cause can speak of this word, which stands in the item that begins there.
 fn speaks(bytes: &[u8], tokens: &[Token], fault: &ReadFault, found: Found, item: &[Token]) -> bool
     ensures { result ≡ speaks fault.now (words_of bytes.now (drop found.word tokens.now))
@@ -96,24 +61,12 @@ fn speaks(bytes: &[u8], tokens: &[Token], fault: &ReadFault, found: Found, item:
 {
     let here = beyond(found.word, tokens);
     match fault {
-        ReadFault::Arguments { name } | ReadFault::Large { name } => {
-            found.used.is_none() && is_used(bytes, here, item, name.as_bytes())
-        }
         ReadFault::Flawed { name, which, .. } => {
             begins_body(bytes, tokens, name.as_bytes(), found.used, item)
                 && flaw_fits(bytes, here, *which)
         }
-        ReadFault::TooMany | ReadFault::TooDeep => begins_process(bytes, tokens, found.used, item),
         ReadFault::Ill { which, .. } => {
             begins_process(bytes, tokens, found.used, item) && flaw_fits(bytes, here, *which)
-        }
-        ReadFault::Lock(lock) => {
-            begins_process(bytes, tokens, found.used, item) && lock_fits(bytes, here, lock)
-        }
-        ReadFault::Formula { name, fault } => {
-            found.used.is_none()
-                && begins_statement(bytes, item, name.as_bytes())
-                && is_named_by(bytes, here, fault)
         }
         _ => false,
     }

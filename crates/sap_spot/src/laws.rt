@@ -1,28 +1,19 @@
 //! Laws of words of which a cause can speak, as contracts of functions that do nothing.
 ghost use Rattle.std.specs.Prelude.{◌≡◌, None, Some, codes, false, true};
-ghost use Rattle.sap_formula.specs.declared.fault.FormulaFault.TheVariants as formula;
 ghost use Rattle.sap_process.specs.declared.flaw.Flaw.{Flaw};
 ghost use Rattle.sap_read.specs.declared.fault.ReadFault.TheVariants.{Arguments, DuplicateName, FunctionClash, Large, NoProcess, Parameters, Syntax, TooDeep, TooMany, UnknownProcess};
 ghost use Rattle.sap_spot.specs.Found.{StandsIn, speaks};
-ghost use Rattle.sap_spot.specs.FoundExamples.{defines, faulty, flawed, full, ill, lemma_of, lock_over, named, no_binder, no_lock, not_bound, restriction_of, two_items, two_items_tokens, word};
+ghost use Rattle.sap_spot.specs.FoundExamples.{defines, flawed, full, ill, lemma_of, lock_over, named, no_binder, no_lock, not_bound, two_items, two_items_tokens, word};
 
 /// A law: of which words in small items a cause can speak, and of which it can't; and in which item a word stands.
 pub fn words_by_hand()
-    ensures locks { (speaks no_lock (word (codes "unlock")) (word (codes "process")) None ≡ true)
-        × (speaks lock_over (word (codes "!")) (word (codes "process")) None ≡ true) }
-    ensures no_locks { (speaks no_lock (word (codes "lock")) (word (codes "process")) None ≡ false)
-        × (speaks lock_over (word (codes "unlock")) (word (codes "process")) None ≡ false)
-        × (speaks no_lock (word (codes "unlock")) (lemma_of (codes "l")) None ≡ false) }
-    ensures uses { speaks no_lock (word (codes "unlock")) (defines (codes "P"))
+    ensures uses { speaks not_bound (named (codes "x")) (defines (codes "P"))
         (Some (named (codes "P"))) ≡ true }
-    ensures no_uses { (speaks no_lock (word (codes "unlock")) (defines (codes "P")) None ≡ false)
-        × (speaks no_lock (word (codes "unlock")) (defines (codes "P"))
+    ensures no_uses { (speaks not_bound (named (codes "x")) (defines (codes "P")) None ≡ false)
+        × (speaks not_bound (named (codes "x")) (defines (codes "P"))
         (Some (named (codes "Q"))) ≡ false)
-        × (speaks no_lock (word (codes "unlock")) (word (codes "process"))
+        × (speaks not_bound (named (codes "x")) (word (codes "process"))
         (Some (named (codes "P"))) ≡ false) }
-    ensures signs { (speaks lock_over (word (codes "|")) (word (codes "process")) None ≡ true)
-        × (speaks lock_over (word (codes "||")) (word (codes "process")) None ≡ true)
-        × (speaks no_lock (word (codes "|")) (word (codes "process")) None ≡ false) }
     ensures flaws { (w : Flaw) → (speaks (ill w) (named (codes "x")) (word (codes "process")) None ≡ true)
         × (speaks (ill w) (word (codes "unlock")) (word (codes "process")) None ≡ false)
         × (speaks (ill w) (named (codes "x")) (lemma_of (codes "l")) None ≡ false) }
@@ -36,37 +27,19 @@ pub fn words_by_hand()
     ensures scopes { (speaks full (word (codes "lock")) (word (codes "process")) None ≡ true)
         × (speaks not_bound (named (codes "x")) (word (codes "process")) None ≡ true)
         × (speaks not_bound (word (codes "lock")) (word (codes "process")) None ≡ false) }
-    ensures formulas { (speaks no_binder (named (codes "x")) (lemma_of (codes "l")) None ≡ true)
-        × (speaks no_binder (named (codes "y")) (lemma_of (codes "l")) None ≡ false)
-        × (speaks no_binder (named (codes "x")) (lemma_of (codes "k")) None ≡ false)
-        × (speaks no_binder (named (codes "x")) (restriction_of (codes "l")) None ≡ true)
-        × (speaks no_binder (named (codes "x")) (defines (codes "l")) None ≡ false) }
-    ensures faults { (speaks (faulty (formula.BadFunction (codes "x"))) (named (codes "x")) (lemma_of (codes "l")) None ≡ true)
-        × (speaks (faulty (formula.Destructor (codes "x"))) (named (codes "x")) (lemma_of (codes "l")) None ≡ true)
-        × (speaks (faulty (formula.Reserved (codes "x"))) (named (codes "x")) (lemma_of (codes "l")) None ≡ true)
-        × (speaks (faulty (formula.Unguarded (codes "x"))) (named (codes "x")) (lemma_of (codes "l")) None ≡ true) }
-    ensures no_faults { (speaks (faulty (formula.BadFunction (codes "x"))) (named (codes "y")) (lemma_of (codes "l")) None ≡ false)
-        × (speaks (faulty (formula.Destructor (codes "x"))) (named (codes "y")) (lemma_of (codes "l")) None ≡ false)
-        × (speaks (faulty (formula.Reserved (codes "x"))) (named (codes "y")) (lemma_of (codes "l")) None ≡ false)
-        × (speaks (faulty (formula.Unguarded (codes "x"))) (named (codes "y")) (lemma_of (codes "l")) None ≡ false) }
-    ensures arguments { (speaks (Arguments (codes "P")) (named (codes "P")) (word (codes "process")) None ≡ true)
-        × (speaks (Arguments (codes "P")) (named (codes "P")) (defines (codes "Q")) None ≡ true)
-        × (speaks (Large (codes "P")) (named (codes "P")) (word (codes "process")) None ≡ true)
-        × (speaks (Large (codes "P")) (named (codes "P")) (defines (codes "Q")) None ≡ true) }
-    ensures no_arguments { (speaks (Arguments (codes "P")) (named (codes "Q")) (word (codes "process")) None ≡ false)
-        × (speaks (Arguments (codes "P")) (named (codes "P")) (lemma_of (codes "l")) None ≡ false)
-        × (speaks (Large (codes "P")) (named (codes "Q")) (word (codes "process")) None ≡ false)
-        × (speaks (Large (codes "P")) (named (codes "P")) (lemma_of (codes "l")) None ≡ false) }
-    ensures limits { (speaks TooMany (word (codes "!")) (word (codes "process")) None ≡ true)
-        × (speaks TooDeep (word (codes "!")) (defines (codes "P")) (Some (named (codes "P"))) ≡ true)
-        × (speaks TooMany (word (codes "!")) (lemma_of (codes "l")) None ≡ false)
-        × (speaks TooDeep (word (codes "!")) (defines (codes "P")) None ≡ false) }
     ensures silent { (speaks NoProcess (word (codes "!")) (word (codes "process")) None ≡ false)
         × (speaks (Syntax 1) (word (codes "!")) (word (codes "process")) None ≡ false)
         × (speaks (UnknownProcess (codes "P")) (named (codes "P")) (word (codes "process")) None ≡ false)
         × (speaks (DuplicateName (codes "P")) (named (codes "P")) (defines (codes "P")) None ≡ false)
         × (speaks (Parameters (codes "x")) (named (codes "x")) (defines (codes "P")) None ≡ false)
-        × (speaks (FunctionClash (codes "f")) (named (codes "f")) (word (codes "functions")) None ≡ false) }
+        × (speaks (FunctionClash (codes "f")) (named (codes "f")) (word (codes "functions")) None ≡ false)
+        × (speaks no_lock (word (codes "unlock")) (word (codes "process")) None ≡ false)
+        × (speaks (Arguments (codes "P")) (named (codes "P")) (word (codes "process")) None ≡ false)
+        × (speaks (Large (codes "P")) (named (codes "P")) (word (codes "process")) None ≡ false)
+        × (speaks TooMany (word (codes "!")) (word (codes "process")) None ≡ false)
+        × (speaks TooDeep (word (codes "!")) (word (codes "process")) None ≡ false)
+        × (speaks no_binder (named (codes "x")) (lemma_of (codes "l")) None ≡ false)
+        × (speaks lock_over (word (codes "!")) (word (codes "process")) None ≡ false) }
     ensures stands { StandsIn two_items two_items_tokens 0 3 × StandsIn two_items two_items_tokens 4 6 }
     ensures not_there { (StandsIn two_items two_items_tokens 0 6 → ⊥) × (StandsIn two_items two_items_tokens 4 4 → ⊥)
         × (StandsIn two_items two_items_tokens 0 4 → ⊥) × (StandsIn two_items two_items_tokens 1 3 → ⊥)

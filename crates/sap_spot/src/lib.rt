@@ -4,7 +4,6 @@
 mod clash;
 mod descent;
 mod flaws;
-mod formulas;
 mod found;
 mod heads;
 mod items;
@@ -14,7 +13,6 @@ mod preorder;
 mod scope;
 mod search;
 mod spot;
-mod uses;
 mod words;
 
 pub use found::{Found, can_speak_of};

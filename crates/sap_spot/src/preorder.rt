@@ -1,8 +1,7 @@
 //! The places of a process in their order, names replaced by what they stand for.
-use crate::found::Found;
-use crate::spot::{Spot, below, expanded, head_word, process_at};
+use crate::spot::{Spot, below, expanded, process_at};
 use crate::words::Words;
-use sap_terms::{MOST_PROCESS_LEVELS, MOST_PROCESS_PLACES, Mem};
+use sap_terms::Mem;
 
 /// A place, and on which level it stands, where the root is on level 1.
 #[derive(Clone, Copy)]
@@ -33,32 +32,4 @@ pub(crate) fn next(words: &Words, pending: &mut Vec<Visit>) -> Result<Option<Vis
         }
     }
     Ok(Some(Visit { spot, ..visit }))
-}
-
-// The first word of the first place beyond the limit of levels, or of places, of those that are still to be visited.
-fn beyond_of(
-    words: &Words,
-    pending: &mut Vec<Visit>,
-    of_levels: bool,
-) -> Result<Option<Found>, Mem> {
-    for k in 0..MOST_PROCESS_PLACES + 1 {
-        let Some(visit) = next(words, pending)? else {
-            return Ok(None);
-        };
-        let is_beyond = if of_levels {
-            visit.level > MOST_PROCESS_LEVELS
-        } else {
-            k == MOST_PROCESS_PLACES
-        };
-        if is_beyond {
-            return Ok(Some(head_word(words, visit.spot)));
-        }
-    }
-    Ok(None)
-}
-
-/// The first word of the first place beyond the limit of levels, or of places.
-pub(crate) fn first_beyond(words: &Words, of_levels: bool) -> Result<Option<Found>, Mem> {
-    let mut pending = start(words)?;
-    beyond_of(words, &mut pending, of_levels)
 }

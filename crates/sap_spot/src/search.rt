@@ -3,38 +3,20 @@ ghost use Rattle.std.specs.Prelude.{IfOk, IfSome};
 ghost use Rattle.sap_spot.specs.Found.{IsWordOf};
 
 use crate::descent::{found_at, found_in};
-use crate::formulas::faulty_word;
 use crate::found::{Found, can_speak_of};
 use crate::layout::{Layout, lay_out};
-use crate::preorder::first_beyond;
-use crate::uses::{longest_use, wrong_count};
 use crate::words::Words;
 use sap_grammar::read_declarations;
-use sap_locks::LockFault;
 use sap_read::ReadFault;
 use sap_terms::{Mem, Signature};
 use sap_text::Token;
 use std::alloc::Global;
 
-// A word that stands in no definition that is used.
-fn alone(word: Option<usize>) -> Option<Found> {
-    match word {
-        Some(word) => Some(Found { word, used: None }),
-        None => None,
-    }
-}
-
 // The word of a process, which lies as `words` has it.
 fn in_layout(words: &Words, fault: &ReadFault) -> Result<Option<Found>, Mem> {
     match fault {
-        ReadFault::TooMany => first_beyond(words, false),
-        ReadFault::TooDeep => first_beyond(words, true),
-        ReadFault::Ill { which, path } => found_at(words, Some(*which), path),
+        ReadFault::Ill { which, path } => found_at(words, *which, path),
         ReadFault::Flawed { name, which, path } => found_in(words, name, *which, path),
-        ReadFault::Arguments { name } => Ok(alone(wrong_count(words, name.as_bytes())?)),
-        ReadFault::Large { name } => Ok(alone(longest_use(words, name.as_bytes()))),
-        ReadFault::Lock(LockFault::UnlockWithoutLock { path }) => found_at(words, None, path),
-        ReadFault::Lock(LockFault::LockOverParallel { path }) => found_at(words, None, path),
         _ => Ok(None),
     }
 }
@@ -50,15 +32,7 @@ fn in_process(bare: &Words, fault: &ReadFault) -> Result<Option<Found>, Mem> {
     in_layout(&words, fault)
 }
 
-// The word, which nothing is said of yet.
-fn sought(words: &Words, fault: &ReadFault) -> Result<Option<Found>, Mem> {
-    match fault {
-        ReadFault::Formula { name, fault } => Ok(alone(faulty_word(words, name, fault)?)),
-        _ => in_process(words, fault),
-    }
-}
-
-// The same of tokens that declare this signature.
+// The word, which nothing is said of yet, of tokens that declare this signature.
 fn sought_among(
     alloc: Global,
     bytes: &[u8],
@@ -75,7 +49,7 @@ fn sought_among(
         layout: &nothing,
         expands: !matches!(fault, ReadFault::Flawed { .. }),
     };
-    sought(&words, fault)
+    in_process(&words, fault)
 }
 
 // The same, where the cause can speak of it.
@@ -94,9 +68,8 @@ fn spoken_of(
     }
 }
 
-/// The word of which the cause speaks for which a file of these tokens is refused: of a flaw of its process the variable, the symbol
-/// or the fact that has it, where it is written; of a lock the unlock, or the sign of the parallel or the replication; of a limit the
-/// first word beyond; the function, the fact or the variable of a formula. `None` of other causes, and where no such
+/// The word of which the cause speaks for which a file of these tokens is refused: of a flaw of its process, or of a definition with
+/// parameters, the variable, the symbol or the fact that has it, where it is written. `None` of other causes, and where no such
 /// word is found. The time is linear in the tokens, but for names, which are looked up. Want of memory is the only error.
 pub fn word_of(
     alloc: Global,

@@ -1,9 +1,9 @@
 -- The tokens of the pieces into which a file is cut.
 use Rattle.std.proofs.Common.{◌≡◌, ◌+◌, ℕ, zero, suc, List, [], ◌∷◌, ◌++◌, length, drop, refl, sym, ap, ◌∙◌, arith}
 use Rattle.std.proofs.Math.Seq.{drop-append_seam, drop-nil}
-use Rattle.std.proofs.lemmas.List.{drop-map, map-append}
+use Rattle.std.proofs.lemmas.List.{map-append}
 use Rattle.sap_text.specs.declared.token.Token.{Token}
-use Rattle.sap_grammar.specs.Words.{Word, word_of, words_of}
+use Rattle.sap_grammar.specs.Words.{Word, words_of}
 use Rattle.sap_grammar.specs.Cut.{IsHeader, Placed, placed, words}
 use Rattle.sap_grammar.specs.Items.{items_end, items_more}
 use Rattle.sap_terms.specs.Signature.{Sig}

@@ -1,5 +1,5 @@
 -- Where in small files a parameter stands twice, and where a declaration clashes.
-use Rattle.std.proofs.Common.{◌≡◌, ◌<◌, ◌+◌, ◌*◌, ℕ, zero, suc, true, false, List, [], drop, Option, Some, None, refl, subst, arith}
+use Rattle.std.proofs.Common.{◌≡◌, ◌<◌, ℕ, zero, suc, true, false, List, drop, Option, Some, None, refl, subst, arith}
 use Rattle.std.specs.Prelude.{codes}
 use Rattle.sap_terms.specs.declared.signature.Builtin.TheVariants.{Hashing}
 use Rattle.sap_grammar.specs.Words.{words_of}

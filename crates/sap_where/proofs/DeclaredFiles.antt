@@ -1,7 +1,7 @@
 -- What the words of a file in the grammar declare are the declarations of its items.
-use Rattle.std.proofs.Common.{rules, ◌≡◌, ◌≤◌, ◌<◌, ◌+◌, ◌-◌, ℕ, zero, suc, Bool, true, false, List, [], ◌∷◌, ◌++◌, append_assoc, length, drop, refl, sym, ap, subst, ◌∙◌, arith, Option, Some, None}
+use Rattle.std.proofs.Common.{◌≡◌, ◌≤◌, ◌+◌, ◌-◌, ℕ, zero, suc, Bool, true, false, List, [], ◌∷◌, ◌++◌, append_assoc, length, drop, refl, sym, ap, subst, ◌∙◌, arith, Option, Some, None}
 use Rattle.std.proofs.lemmas.List.{append-nil, drop_all, length-drop}
-use Rattle.std.specs.Prelude.{codes, if◌then◌else◌, ◌||◌, ◌&&◌, map, nat_le}
+use Rattle.std.specs.Prelude.{codes, if◌then◌else◌, ◌||◌, map}
 use Rattle.std.specs.Str.{bytes_eq}
 use Rattle.sap_terms.proofs.PlainLaws.Known.{clash, one_name}
 use Rattle.sap_terms.specs.Signature.{Sig}
@@ -11,10 +11,10 @@ use Rattle.sap_terms.specs.declared.signature.Builtin.{Builtin}
 use Rattle.sap_text.specs.declared.token.Token.{Token}
 use Rattle.sap_grammar.specs.Words.{Word, mark, name, number, is_mark, starts, words_of}
 use Rattle.sap_grammar.specs.Words as words_mod
-use Rattle.sap_grammar.specs.Reading.{given, names}
+use Rattle.sap_grammar.specs.Reading.{given}
 use Rattle.sap_grammar.specs.Cut.{AreNoItemWords, IsCut, NoItemWord, Placed, StartsItem, cut_none, cut_one, is_item_word, words}
 use Rattle.sap_grammar.specs.Declarations.{AreBuiltins, AreSymbols, Declaration, IsBuiltin, IsSymbol, builtins_last, builtins_more, of_builtin, of_symbol, spells_asymmetric, spells_hashing, spells_private, spells_public, spells_revealing, spells_signing, spells_symmetric, symbols_last, symbols_more, value}
-use Rattle.sap_grammar.specs.ItemReading.{arity_of_digits, builtin_at, declaration_at, is_joined, symbol_at}
+use Rattle.sap_grammar.specs.ItemReading.{arity_of_digits, declaration_at, is_joined}
 use Rattle.sap_grammar.specs.Items.{items_end, items_more}
 use Rattle.sap_grammar.proofs.ReadingLaws.Limits.{fits}
 use Rattle.sap_grammar.proofs.ReadingLaws.Tokens.{length-words, words_placed}
@@ -23,7 +23,7 @@ use Rattle.sap_spot.specs.Found.{begins_item}
 use Rattle.sap_read.specs.Files.{IsParted}
 use Rattle.sap_read.specs.Item.{Item, Standing, declarations, declared_by}
 use Rattle.sap_read.specs.ItemGrammar.{AreItems, IsItem, item_builtins, item_definition, item_functions, item_process, item_statement}
-use Rattle.sap_where.specs.Uses.{stands}
+use Rattle.sap_where.specs.TokenWords.{stands}
 use Rattle.sap_where.specs.FileDeclarations.{alone, declared_at, declared_before, in_item, is_next, listed}
 use Rattle.sap_where.proofs.CutWords.{no_items, words-append, words_behind}
 

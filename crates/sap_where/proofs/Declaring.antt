@@ -1,12 +1,11 @@
 -- What is read of a declaration, without the words behind it.
 use Rattle.std.proofs.Common.{◌≡◌, ℕ, Bool, true, false, List, drop, Option, Some, None, refl, sym, ap, ◌∙◌}
 use Rattle.std.specs.Prelude.{◌&&◌, codes, if◌then◌else◌, option_map}
-use Rattle.sap_terms.specs.Signature.{Sig}
 use Rattle.sap_terms.specs.declared.signature.Symbol.{Symbol}
 use Rattle.sap_terms.specs.declared.signature.Builtin.{Builtin}
 use Rattle.sap_grammar.specs.Words.{Word, is_lower, starts}
 use Rattle.sap_grammar.specs.Reading.{Read, given, name_at}
-use Rattle.sap_grammar.specs.Declarations.{Declaration, of_builtin, of_symbol}
+use Rattle.sap_grammar.specs.Declarations.{of_builtin, of_symbol}
 use Rattle.sap_grammar.specs.ItemReading.{arity_at, builtin_at, declaration_at, mapped, symbol_at, with_privacy}
 use Rattle.sap_where.specs.FileDeclarations.{alone}
 

@@ -25,10 +25,12 @@ use Rattle.sap_read.specs.Files.{AreTokens, FileContent, IsParted, IsRead, no_to
 use Rattle.sap_read.specs.declared.fault.ReadFault.{ReadFault}
 use Rattle.sap_read.specs.declared.fault.ReadFault.TheVariants.{Mem, Lex as LexFault, Header, Syntax, NoProcess, TwoProcesses, UnknownProcess, DuplicateName, FunctionClash, Parameters, Arguments, TooMany, TooDeep, Large, Flawed, Ill, Lock, Formula}
 use Rattle.sap_where.specs.declared.told.Told.{Told}
-use Rattle.sap_where.specs.Told.{IsTold, at_its_place}
+use Rattle.sap_where.specs.ReadPlaces.{IsReadCause}
+use Rattle.sap_where.specs.Told.{HasPlace, IsTold, at_its_place, bytes_have, by_words, declarations_have, header_has, item_has, parallels_have, parameters_have, reading_has, unlocks_have}
 use Rattle.sap_where.specs.Parameters.{IsParameter}
-use Rattle.sap_where.specs.Where.{HasPlace, HoldsOnce, StartsFile, at_byte, bytes_have, declarations_have, header_has, item_has, offset_of, one_byte, parameters_have}
+use Rattle.sap_where.specs.Where.{HoldsOnce, StartsFile, at_byte, offset_of, one_byte}
 use Rattle.sap_where.specs.FileDeclarations.{declared_before}
+use Rattle.sap_where.specs.Placed.{path_of}
 use Rattle.sap_where.proofs.DeclaredFiles.{file_declares}
 use Rattle.sap_where.proofs.ParameterFiles.{HasTwo, file_twice}
 
@@ -263,12 +265,12 @@ tells (accepted p a c q w n f) = tt
 -- what is told of a fault of bytes
 abbrev ByteTold : List ℕ → Lex → Option Told → Type 0
 ByteTold z f o = MatchOption o ((at : ℕ) → offset_of f ≡ Some at → length z ≤ at)
-    (λ t. ((at : ℕ) × (offset_of f ≡ Some at) × (at < length z) × (t.word ≡ one_byte at)) × (t.used ≡ None))
+    (λ t. ((at : ℕ) × (offset_of f ≡ Some at) × (at < length z) × (t.word ≡ one_byte at)) × (t.uses ≡ []))
 
 -- the byte of a fault is where the fault stands
 pub byte_place : (z : List ℕ) (f : Lex) (o : Option Told) → ByteTold z f o → IfSome o (λ t. IsTold z (LexFault f) t)
 byte_place z f None m = tt
-byte_place z f (Some t) m = at_its_place (at_byte m.0.1 m.0.2 m.0.3) m.1
+byte_place z f (Some t) m = at_its_place (by_words (at_byte m.0.1 m.0.2 m.0.3) m.1)
 
 -- and there is one where the bytes are refused for it
 pub byte_told : (z : List ℕ) (f : Lex) (o : Option Told) → ByteTold z f o → IsRead z (Err (LexFault f)) → o ≡ None → ⊥
@@ -283,26 +285,34 @@ pub place_told : (z : List ℕ) (ts : List Token) (e : ReadFault) (o : Option To
     → ((us : List Token) → AreTokens z us → us ≡ ts) → (e ≡ Header → o ≡ None → StartsFile (words_of z ts))
     → ((x : List ℕ) → e ≡ Parameters x → o ≡ None → (i : ℕ) → HoldsOnce (IsParameter z ts x i))
     → ((x : List ℕ) → e ≡ FunctionClash x → o ≡ None → clash_from pairs_alone (declared_before z ts (length ts)) ≡ Some x → ⊥)
-    → ((line : ℕ) → e ≡ Syntax line → IsRead z (Err (Syntax line)) → o ≡ None → ⊥) → HasPlace e → IsRead z (Err e) → o ≡ None → ⊥
-place_told z ts e o other only starts once clash item (bytes_have f) r none = other f refl
-place_told z ts e o other only starts once clash item (parameters_have x) r none =
+    → ((line : ℕ) → e ≡ Syntax line → IsRead z (Err (Syntax line)) → o ≡ None → ⊥) → ((path : List ℕ) → path_of e ≡ Some path → IsRead z (Err e) → o ≡ None → ⊥)
+    → (IsReadCause e → IsRead z (Err e) → o ≡ None → ⊥) → HasPlace e → IsRead z (Err e) → o ≡ None → ⊥
+place_told z ts e o other only starts once clash item lead reads (bytes_have f) r none = other f refl
+place_told z ts e o other only starts once clash item lead reads (parameters_have x) r none =
     let t = tells r in
     let two = subst (λ (us : List Token). HasTwo z us x) (only t.0 t.1) t.2 in
     once x refl none two.item two.first two.second two.order two.is_first two.is_second
-place_told z ts e o other only starts once clash item (item_has line) r none = item line refl r none
-place_told z ts e o other only starts once clash item (declarations_have x) r none =
+place_told z ts e o other only starts once clash item lead reads (item_has line) r none = item line refl r none
+place_told z ts e o other only starts once clash item lead reads (declarations_have x) r none =
     let t = tells r in
     clash x refl none (subst (λ (us : List Token). clash_from pairs_alone (declared_before z us (length us)) ≡ Some x) (only t.0 t.1) t.2)
-place_told z ts e o other only starts once clash item header_has r none =
+place_told z ts e o other only starts once clash item lead reads (unlocks_have path) r none = lead path refl r none
+place_told z ts e o other only starts once clash item lead reads (parallels_have path) r none = lead path refl r none
+place_told z ts e o other only starts once clash item lead reads header_has r none =
     let t = tells r in
     let same = only t.0 t.1 in
     let h = header_words z ts (starts refl none) in
     t.2 h.0 h.1 (subst (λ (us : List Token). IsHeader h.0 (placed z us) h.1) (sym same) h.2)
+place_told z ts e o other only starts once clash item lead reads (reading_has is) r none = reads is r none
 
 -- without tokens none is told
-pub tokens_told : (z : List ℕ) (e : ReadFault) → ((f : Lex) → e ≡ LexFault f → ⊥) → ((us : List Token) → AreTokens z us → ⊥) → HasPlace e → IsRead z (Err e) → ⊥
-tokens_told z e other none (bytes_have f) r = other f refl
-tokens_told z e other none header_has r = let t = tells r in none t.0 t.1
-tokens_told z e other none (item_has line) r = let t = tells r in none t.0 t.1
-tokens_told z e other none (parameters_have x) r = let t = tells r in none t.0 t.1
-tokens_told z e other none (declarations_have x) r = let t = tells r in none t.0 t.1
+pub tokens_told : (z : List ℕ) (e : ReadFault) → ((f : Lex) → e ≡ LexFault f → ⊥) → ((us : List Token) → AreTokens z us → ⊥) → ((path : List ℕ) → path_of e ≡ Some path → IsRead z (Err e) → ⊥)
+    → (IsReadCause e → IsRead z (Err e) → ⊥) → HasPlace e → IsRead z (Err e) → ⊥
+tokens_told z e other none lead reads (bytes_have f) r = other f refl
+tokens_told z e other none lead reads header_has r = let t = tells r in none t.0 t.1
+tokens_told z e other none lead reads (item_has line) r = let t = tells r in none t.0 t.1
+tokens_told z e other none lead reads (parameters_have x) r = let t = tells r in none t.0 t.1
+tokens_told z e other none lead reads (declarations_have x) r = let t = tells r in none t.0 t.1
+tokens_told z e other none lead reads (unlocks_have path) r = lead path refl r
+tokens_told z e other none lead reads (parallels_have path) r = lead path refl r
+tokens_told z e other none lead reads (reading_has is) r = reads is r

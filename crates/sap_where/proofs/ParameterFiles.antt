@@ -17,7 +17,7 @@ use Rattle.sap_read.specs.Files.{IsParted}
 use Rattle.sap_read.specs.FileProcess.{definitions_of}
 use Rattle.sap_read.specs.Item.{Body, Item, Standing, bodies, body_of}
 use Rattle.sap_read.specs.ItemGrammar.{AreItems, AreParameters, HasParameters, IsItem, item_builtins, item_definition, item_functions, item_process, item_statement, parameters_last, parameters_more, with_parameters, without_parameters}
-use Rattle.sap_where.specs.Uses.{is_named, stands}
+use Rattle.sap_where.specs.TokenWords.{is_named, stands}
 use Rattle.sap_where.specs.Parameters.{CanBeParameter, IsParameter, goes_on, opens_parameters, parameter_at}
 use Rattle.sap_where.proofs.SecondParameter.{first_can, next_can}
 use Rattle.sap_where.proofs.CutWords.{behind_header, next_piece, no_items, piece_words, words_behind}

@@ -3,7 +3,7 @@ use Rattle.std.proofs.Common.{◌≡◌, ◌≤◌, ◌<◌, ◌+◌, ℕ, true,
 use Rattle.std.specs.Prelude.{codes}
 use Rattle.sap_where.specs.declared.find.Beginning.TheVariants.{Definition, Statement}
 use Rattle.sap_where.specs.declared.place.Position.{Position}
-use Rattle.sap_where.specs.PlaceExamples.{IsQ, at, ended_header, nameless_header, once_tokens, second_byte, second_line, stated, stated_tokens, stretch, twice, twice_tokens, two_lines}
+use Rattle.sap_where.specs.PlaceExamples.{at, ended_header, nameless_header, once_tokens, second_byte, second_line, stated, stated_tokens, stretch, twice, twice_tokens, two_lines}
 use Rattle.sap_where.specs.Positions.{IsFeed, IsPlaceText, IsPosition, LineBegins, LineEnds}
 use Rattle.sap_where.specs.Where.{BeginsAt, IsTakenAt, StartsFile, only_statement, second_definition, second_statement}
 use Rattle.sap_expect.specs.FirstWrong.{IsFirstWrong}
@@ -185,27 +185,3 @@ pub not_first_stated : IsTakenAt stated stated_tokens (codes "P") 0 → ⊥
 not_first_stated h =
     let e : 2 ≡ 0 = one_taken stated stated_tokens (codes "P") 2 0 stated_again h in
     absurd (omega (arith, e))
-
-pub behind_equals : IsQ 6
-behind_equals = record { inside = omega arith; is = refl }
-
-pub behind_sign : IsQ 10
-behind_sign = record { inside = omega arith; is = refl }
-
-pub behind_parenthesis : IsQ 28
-behind_parenthesis = record { inside = omega arith; is = refl }
-
-pub behind_else : IsQ 31
-behind_else = record { inside = omega arith; is = refl }
-
-pub no_parameter : IsQ 3 → ⊥
-no_parameter u = false_is u.is
-
-pub no_fact : IsQ 14 → ⊥
-no_fact u = false_is u.is
-
-pub no_value : IsQ 25 → ⊥
-no_value u = false_is u.is
-
-pub none_stated : IsQ 35 → ⊥
-none_stated u = false_is u.is

@@ -1,5 +1,5 @@
 -- Where parameters of one definition can stand, and which is the second of a name.
-use Rattle.std.proofs.Common.{◌≡◌, ◌≤◌, ◌<◌, ◌+◌, ◌*◌, ℕ, zero, suc, Bool, true, false, List, length, drop, refl, sym, ap, subst, ◌∙◌, arith, ◌⊎◌, inl, inr, ⊎_elim}
+use Rattle.std.proofs.Common.{◌≡◌, ◌≤◌, ◌<◌, ◌+◌, ℕ, zero, suc, true, false, List, length, drop, refl, sym, ap, subst, ◌∙◌, arith, ◌⊎◌, inl, inr, ⊎_elim}
 use Rattle.std.proofs.lemmas.List.{drop_all}
 use Rattle.std.specs.Prelude.{codes, ◌&&◌}
 use Rattle.sap_terms.proofs.PlainLaws.Known.{clash}
@@ -8,7 +8,7 @@ use Rattle.sap_terms.proofs.PlainLaws.Tests.{and_left}
 use Rattle.sap_text.specs.declared.token.Token.{Token}
 use Rattle.sap_grammar.specs.Words.{starts, words_of}
 use Rattle.sap_grammar.specs.Reading.{names}
-use Rattle.sap_where.specs.Uses.{is_named, stands}
+use Rattle.sap_where.specs.TokenWords.{is_named, stands}
 use Rattle.sap_where.specs.Parameters.{CanBeParameter, IsParameter, goes_on, opens_parameters, parameter_at}
 use Rattle.sap_where.specs.Where.{HoldsOnce, IsRepeatedAt, IsSecond}
 

@@ -8,7 +8,7 @@ use Rattle.sap_grammar.specs.Declarations.{Declaration}
 use Rattle.sap_grammar.specs.ItemReading.{declaration_at}
 use Rattle.sap_grammar.specs.Signatures.{clash_from, clash_with, signature_from}
 use Rattle.sap_spot.specs.Found.{begins_item}
-use Rattle.sap_where.specs.Uses.{stands}
+use Rattle.sap_where.specs.TokenWords.{stands}
 
 -- the last item that begins before token number k begins with this word
 abbrev pub in_item : List ℕ → List Token → List ℕ → ℕ → Bool

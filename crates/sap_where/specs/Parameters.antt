@@ -3,7 +3,7 @@ use Rattle.std.specs.Prelude.{◌≡◌, ◌<◌, ◌+◌, ◌*◌, ℕ, Bool, t
 use Rattle.sap_text.specs.declared.token.Token.{Token}
 use Rattle.sap_grammar.specs.Words.{words_of}
 use Rattle.sap_grammar.specs.Reading.{names}
-use Rattle.sap_where.specs.Uses.{is_named, stands}
+use Rattle.sap_where.specs.TokenWords.{is_named, stands}
 
 -- a definition with parameters begins with token number i: `let`, a name, and a parenthesis
 abbrev pub opens_parameters : List ℕ → List Token → ℕ → Bool

@@ -6,7 +6,6 @@ use Rattle.sap_grammar.specs.Words.{Word, mark, name}
 use Rattle.sap_where.specs.declared.place.Position.{Position}
 use Rattle.sap_where.specs.declared.place.Stretch.{Stretch}
 use Rattle.sap_where.specs.FileDeclarations.{IsClashAt}
-use Rattle.sap_where.specs.Uses.{IsUse}
 use Rattle.sap_where.specs.Where.{IsRepeatedAt}
 
 -- two lines, the second without a line feed
@@ -67,26 +66,8 @@ three_lines_tokens =
     ∷ on_line 2 20 21
     ∷ on_line 2 21 22 ∷ on_line 2 22 23 ∷ on_line 3 24 27 ∷ []
 
--- words in which Q is a parameter, what is behind `=`, `!`, `(` and `else`, a fact, a value that is looked up, and what is behind the
--- name of a lemma
-abbrev pub many : List ℕ
-many = codes "let P ( Q ) = Q process : ! Q | [ ! Q ( ) ] --> [ ] ; lookup x as Q in ( Q ) else Q lemma l : Q"
-
 abbrev pub sign : (from to : ℕ) → Token
 sign from to = record { kind = Symbol; from = from; to = to; line = 1 }
-
-abbrev pub many_tokens : List Token
-many_tokens =
-    word 0 3 ∷ word 4 5 ∷ sign 6 7 ∷ word 8 9 ∷ sign 10 11 ∷ sign 12 13 ∷ word 14 15
-    ∷ word 16 23 ∷ sign 24 25 ∷ sign 26 27 ∷ word 28 29 ∷ sign 30 31 ∷ sign 32 33
-    ∷ sign 34 35 ∷ word 36 37 ∷ sign 38 39 ∷ sign 40 41 ∷ sign 42 43 ∷ sign 44 47
-    ∷ sign 48 49 ∷ sign 50 51 ∷ sign 52 53 ∷ word 54 60 ∷ word 61 62 ∷ word 63 65
-    ∷ word 66 67 ∷ word 68 70 ∷ sign 71 72 ∷ word 73 74 ∷ sign 75 76 ∷ word 77 81
-    ∷ word 82 83 ∷ word 84 89 ∷ word 90 91 ∷ sign 92 93 ∷ word 94 95 ∷ []
-
--- token number k of these is Q as a process
-abbrev pub IsQ : ℕ → Type 0
-IsQ k = IsUse many many_tokens (codes "Q") k
 
 -- three definitions: in the first x is a parameter once, in the second three times, in the third twice
 abbrev pub three_headings : List ℕ

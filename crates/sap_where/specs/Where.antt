@@ -1,5 +1,5 @@
 -- Where in a file the cause stands for which it is refused.
-use Rattle.std.specs.Prelude.{◌≡◌, ◌<◌, ◌+◌, ℕ, Bool, true, codes, List, [], ◌∷◌, length, drop, slice_get, Option, Some, None}
+use Rattle.std.specs.Prelude.{◌≡◌, ◌<◌, ◌≤◌, ◌+◌, ℕ, Bool, true, codes, List, [], ◌∷◌, length, drop, slice_get, Option, Some, None}
 use Rattle.sap_text.specs.declared.fault.Lex.{Lex}
 use Rattle.sap_text.specs.declared.fault.Lex.TheVariants as lex
 use Rattle.sap_text.specs.declared.token.Token.{Token}
@@ -7,7 +7,7 @@ use Rattle.sap_grammar.specs.Words.{Word, mark, name, words_of, starts}
 use Rattle.sap_spot.specs.Found.{begins_definition, begins_statement}
 use Rattle.sap_read.specs.Files.{AreTokens}
 use Rattle.sap_read.specs.declared.fault.ReadFault.{ReadFault}
-use Rattle.sap_read.specs.declared.fault.ReadFault.TheVariants.{Lex as LexFault, Header, Syntax, TwoProcesses, UnknownProcess, DuplicateName, FunctionClash, Parameters}
+use Rattle.sap_read.specs.declared.fault.ReadFault.TheVariants.{Lex as LexFault, Header, Syntax, TwoProcesses, DuplicateName, FunctionClash, Parameters}
 use Rattle.sap_where.specs.declared.place.Stretch.{Stretch}
 use Rattle.sap_expect.specs.FileWords.{IsFileWords}
 use Rattle.sap_expect.specs.FirstWrong.{IsFirstWrong}
@@ -15,7 +15,6 @@ use Rattle.sap_where.specs.declared.find.Beginning.{Beginning}
 use Rattle.sap_where.specs.declared.find.Beginning.TheVariants.{Process, Definition, Statement}
 use Rattle.sap_where.specs.FileDeclarations.{IsClashAt}
 use Rattle.sap_where.specs.Parameters.{IsParameter}
-use Rattle.sap_where.specs.Uses.{IsUse}
 
 -- the offset that a fault of bytes names
 abbrev pub offset_of : Lex → Option ℕ
@@ -24,6 +23,10 @@ offset_of (lex.BadByte at) = Some at
 offset_of (lex.OpenComment at) = Some at
 offset_of (lex.OpenQuote at) = Some at
 offset_of (lex.NameLong at) = Some at
+
+-- the stretch is one of so many bytes
+abbrev pub IsInBytes : ℕ → Stretch → Type 0
+IsInBytes size s = (s.from ≤ s.to) × (s.to ≤ size)
 
 -- one byte; one token's bytes; no byte, behind the last of the tokens
 abbrev pub one_byte : ℕ → Stretch
@@ -103,8 +106,8 @@ pub record IsRepeatedAt (z : List ℕ) (ts : List Token) (x : List ℕ) (k : ℕ
 
 -- the stretch is where this cause stands in the bytes: the byte of a fault of bytes; the word with which what stands before it is no
 -- header's beginning any more; the word with which what stands before it is no file's beginning any more; `process` where it stands a
--- second time; a name of a process where it is used first; the name that is taken, behind its item's first word; a parameter where it
--- stands a second time; the first word of the first declaration that clashes
+-- second time; the name that is taken, behind its item's first word; a parameter where it stands a second time; the first word of the
+-- first declaration that clashes
 pub data IsWhere (z : List ℕ) : ReadFault → Stretch → Type 0 where
   at_byte : {f : Lex} {at : ℕ} {s : Stretch} → offset_of f ≡ Some at → at < length z
       → s ≡ one_byte at → IsWhere z (LexFault f) s
@@ -118,17 +121,7 @@ pub data IsWhere (z : List ℕ) : ReadFault → Stretch → Type 0 where
       → IsWhere z (TwoProcesses line) s
   at_name : {ts : List Token} {x : List ℕ} {k : ℕ} {s : Stretch} → AreTokens z ts
       → IsTakenAt z ts x k → s ≡ stretch_at ts (k + 1) → IsWhere z (DuplicateName x) s
-  at_use : {ts : List Token} {x : List ℕ} {k : ℕ} {s : Stretch} → AreTokens z ts
-      → IsFirst (IsUse z ts x) k → s ≡ stretch_at ts k → IsWhere z (UnknownProcess x) s
   at_parameter : {ts : List Token} {x : List ℕ} {k : ℕ} {s : Stretch} → AreTokens z ts
       → IsRepeatedAt z ts x k → s ≡ stretch_at ts k → IsWhere z (Parameters x) s
   at_declaration : {ts : List Token} {x : List ℕ} {k : ℕ} {s : Stretch} → AreTokens z ts
       → IsClashAt z ts x k → s ≡ stretch_at ts k → IsWhere z (FunctionClash x) s
-
--- these causes have a place in each file that is refused for them
-pub data HasPlace : ReadFault → Type 0 where
-  bytes_have : (f : Lex) → HasPlace (LexFault f)
-  header_has : HasPlace Header
-  item_has : (line : ℕ) → HasPlace (Syntax line)
-  parameters_have : (x : List ℕ) → HasPlace (Parameters x)
-  declarations_have : (x : List ℕ) → HasPlace (FunctionClash x)

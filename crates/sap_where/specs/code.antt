@@ -1,2 +1,6 @@
 -- What the code does, step by step: no public contract cites what stands below.
 pub mod Declaring
+pub mod NamedUses
+pub mod Walked
+pub mod Beyond
+pub mod PartWalk

@@ -1,5 +1,5 @@
 //! Where a declaration clashes with what is declared before it.
-ghost use Rattle.std.specs.Prelude.{◌≡◌, ◌≤◌, ◌+◌, ℕ, List, None, Some, codes, length, IfOk, IfSome, MatchOption, OnOk};
+ghost use Rattle.std.specs.Prelude.{◌≡◌, ◌≤◌, ◌+◌, ℕ, List, [], None, Some, codes, length, IfOk, IfSome, MatchOption, OnOk};
 ghost use Rattle.std.specs.List.{All};
 ghost use Rattle.sap_text.specs.Spans.{IsWithin};
 ghost use Rattle.sap_text.specs.declared.token.Token.{Token};
@@ -14,12 +14,12 @@ ghost use Rattle.sap_where.specs.code.Declaring.{clash_of, with_given};
 ghost use Rattle.sap_where.specs.declared.place.Stretch.{Stretch};
 
 use crate::declarations::{add_builtin_at, add_symbol_at};
+use crate::token_words::stands;
 use crate::told::Told;
-use crate::uses::stands;
 use crate::walk::stretch_at;
 use sap_grammar::beyond;
 use sap_spot::begins_item;
-use sap_terms::{Mem, Name, Signature};
+use sap_terms::{Items, Mem, Name, Signature};
 use sap_text::Token;
 use std::alloc::Global;
 
@@ -160,7 +160,7 @@ pub(crate) fn clash_told(
     requires only { (ts : List Token) → AreTokens bytes.now ts → ts ≡ tokens.now }
     ensures place { IfOk result (λ o. IfSome o (λ t. IsTold bytes.now (FunctionClash name.now) t)) }
     ensures inside { IfOk result (λ o. IfSome o (λ t. t.word.from ≤ length bytes.now)) }
-    ensures unused { IfOk result (λ o. IfSome o (λ t. t.used ≡ None)) }
+    ensures unused { IfOk result (λ o. IfSome o (λ t. t.uses ≡ [])) }
     ensures clash { IfOk result (λ o. o ≡ None
         → clash_from pairs_alone (declared_before bytes.now tokens.now (length tokens.now))
         ≡ Some name.now → ⊥) }
@@ -170,7 +170,7 @@ pub(crate) fn clash_told(
     match clash_at(alloc, bytes, tokens, name.as_bytes())? {
         Some(k) => Ok(Some(Told {
             word: stretch_at(tokens, k),
-            used: None,
+            uses: Items::new(alloc),
         })),
         None => Ok(None),
     }

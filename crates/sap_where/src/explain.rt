@@ -1,10 +1,10 @@
 //! What is told of a refused file behind the line that refuses it.
-ghost use Rattle.std.specs.Prelude.{◌≡◌, ◌≤◌, ◌++◌, ℕ, List, [], ◌∷◌, codes, decimal, length, IfSome, Some, None, OnOk};
+ghost use Rattle.std.specs.Prelude.{◌≡◌, ◌≤◌, ◌-◌, ◌++◌, ℕ, List, [], ◌∷◌, codes, decimal, length, take, OnOk};
+ghost use Rattle.std.specs.List.{All};
 ghost use Rattle.sap_where.specs.Advice.{advice};
-ghost use Rattle.sap_where.specs.Explained.{IsExplanation, IsPlaceTold, IsUseText};
+ghost use Rattle.sap_where.specs.Explained.{AreUseTexts, AreUsesTold, IsExplanation, IsPlaceTold, IsUseText, more_text};
 ghost use Rattle.sap_where.specs.Told.{IsTold};
-ghost use Rattle.sap_where.specs.Where.{IsWhere};
-ghost use Rattle.sap_where.specs.declared.place.Stretch.{Stretch as StretchOf};
+ghost use Rattle.sap_where.specs.Where.{IsInBytes};
 
 use crate::advice::advice;
 use crate::picture::push_place;
@@ -34,39 +34,74 @@ fn push_numbered(text: &mut Text, before: &[u8], number: u64) -> Result<(), Mem>
 
 // Puts last the name that stands here, and that it is used on this line.
 fn push_use_at(text: &mut Text, bytes: &[u8], used: Stretch) -> Result<(), Mem>
-    requires order { used.from ≤ used.to }
-    requires inside { used.to ≤ length bytes.now }
-    ensures { OnOk result ((t : List ℕ) × (text.new ≡ text.old ++ t)
-        × IsUseText bytes.now (Some used) t) }
+    requires { IsInBytes (length bytes.now) used }
+    ensures { OnOk result ((t : List ℕ) × (text.new ≡ text.old ++ t) × IsUseText bytes.now used t) }
 {
     let position = position_of(bytes, used.from);
     push_name(text, &bytes[used.from as usize..used.to as usize])?;
     push_numbered(text, b", used at line ", position.line)
 }
 
-// The same where it is used, and else nothing.
-fn push_use(text: &mut Text, bytes: &[u8], used: Option<Stretch>) -> Result<(), Mem>
-    requires order { IfSome used (λ u. u.from ≤ u.to) }
-    requires inside { IfSome used (λ u. u.to ≤ length bytes.now) }
-    ensures { OnOk result ((t : List ℕ) × (text.new ≡ text.old ++ t) × IsUseText bytes.now used t) }
+// The same of each of these uses.
+fn push_each_use(text: &mut Text, bytes: &[u8], uses: &[Stretch]) -> Result<(), Mem>
+    requires { All (IsInBytes (length bytes.now)) uses.now }
+    ensures { OnOk result ((t : List ℕ) × (text.new ≡ text.old ++ t)
+        × AreUseTexts bytes.now uses.now t) }
 {
-    match used {
-        Some(used) => push_use_at(text, bytes, used),
-        None => Ok(()),
+    let mut k = 0;
+    while k < uses.len() {
+        push_use_at(text, bytes, uses[k])?;
+        k += 1;
     }
+    Ok(())
+}
+
+// Eight of these, or all, if they are fewer.
+fn first_eight(uses: &[Stretch]) -> &[Stretch]
+    ensures { result.now ≡ take 8 uses.now }
+{
+    if uses.len() > 8 { &uses[..8] } else { uses }
+}
+
+// How many there are beyond eight.
+fn beyond_eight(uses: &[Stretch]) -> u64
+    ensures { result ≡ length uses.now - 8 }
+{
+    uses.len().saturating_sub(8) as u64
+}
+
+// Puts last that there are so many more, if there are.
+fn push_more(text: &mut Text, more: u64) -> Result<(), Mem>
+    ensures { OnOk result (text.new ≡ text.old ++ more_text more) }
+{
+    if more == 0 {
+        return Ok(());
+    }
+    text.push_bytes(b"and ")?;
+    text.push_number(more)?;
+    text.push_bytes(b" more\n")
+}
+
+// Puts last what is told of the uses: of eight at most each with its line, and how many more there are.
+fn push_uses(text: &mut Text, bytes: &[u8], uses: &[Stretch]) -> Result<(), Mem>
+    requires { All (IsInBytes (length bytes.now)) uses.now }
+    ensures { OnOk result ((t : List ℕ) × (text.new ≡ text.old ++ t)
+        × AreUsesTold bytes.now uses.now t) }
+{
+    push_each_use(text, bytes, first_eight(uses))?;
+    push_more(text, beyond_eight(uses))
 }
 
 // Puts last what is told of this place.
-fn push_told(text: &mut Text, bytes: &[u8], fault: &ReadFault, told: Told) -> Result<(), Mem>
-    requires place { IsTold bytes.now fault.now told }
-    requires inside { told.word.from ≤ length bytes.now }
-    requires order { IfSome told.used (λ u. u.from ≤ u.to) }
-    requires used { IfSome told.used (λ u. u.to ≤ length bytes.now) }
+fn push_told(text: &mut Text, bytes: &[u8], fault: &ReadFault, told: &Told) -> Result<(), Mem>
+    requires place { IsTold bytes.now fault.now told.now }
+    requires inside { told.now.word.from ≤ length bytes.now }
+    requires uses { All (IsInBytes (length bytes.now)) told.now.uses }
     ensures { OnOk result ((t : List ℕ) × (text.new ≡ text.old ++ t)
         × IsPlaceTold bytes.now fault.now t) }
 {
     push_place(text, bytes, told.word)?;
-    push_use(text, bytes, told.used)
+    push_uses(text, bytes, told.uses.as_slice())
 }
 
 // Puts last what is told of the place at which the cause stands, if it has one.
@@ -80,7 +115,7 @@ fn push_place_told(
         × IsPlaceTold bytes.now fault.now t) }
 {
     match place_of(alloc, bytes, fault)? {
-        Some(told) => push_told(text, bytes, fault, told),
+        Some(told) => push_told(text, bytes, fault, &told),
         None => Ok(()),
     }
 }
@@ -94,8 +129,8 @@ fn push_advice(text: &mut Text, fault: &ReadFault) -> Result<(), Mem>
 }
 
 /// Puts last what is told of bytes that are refused for this cause, behind the line that says so: where it stands, as `push_place`
-/// tells it, if it has a place, and where that is used, if it is in a `let`; and one sentence of what to change. Want of memory is
-/// the only error.
+/// tells it, if it has a place, and where that is used, if it is in a `let`, and where that is, of eight uses at most; and one sentence
+/// of what to change. Want of memory is the only error.
 pub fn push_explanation(
     alloc: Global,
     text: &mut Text,

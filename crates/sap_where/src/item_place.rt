@@ -1,5 +1,5 @@
 //! Where a piece of a file that is no item is wrong.
-ghost use Rattle.std.specs.Prelude.{◌≡◌, ◌≤◌, ℕ, length, List, IfOk, IfSome, None};
+ghost use Rattle.std.specs.Prelude.{◌≡◌, ◌≤◌, ℕ, length, List, [], IfOk, IfSome, None};
 ghost use Rattle.std.specs.List.{All};
 ghost use Rattle.sap_text.specs.Spans.{IsWithin};
 ghost use Rattle.sap_text.specs.declared.token.Token.{Token};
@@ -14,7 +14,7 @@ ghost use Rattle.sap_where.specs.Where.{IsWhere};
 use crate::told::Told;
 use crate::walk::stretch_at;
 use sap_expect::first_wrong;
-use sap_terms::Mem;
+use sap_terms::{Items, Mem};
 use sap_text::Token;
 use std::alloc::Global;
 
@@ -26,7 +26,7 @@ pub(crate) fn item_told(alloc: Global, bytes: &[u8], tokens: &[Token]) -> Result
     requires only { (ts : List Token) → AreTokens bytes.now ts → ts ≡ tokens.now }
     ensures place { IfOk result (λ o. IfSome o (λ t. (line : ℕ) → IsTold bytes.now (Syntax line) t)) }
     ensures inside { IfOk result (λ o. IfSome o (λ t. t.word.from ≤ length bytes.now)) }
-    ensures unused { IfOk result (λ o. IfSome o (λ t. t.used ≡ None)) }
+    ensures unused { IfOk result (λ o. IfSome o (λ t. t.uses ≡ [])) }
     ensures words { IfOk result (λ o. o ≡ None → IsFileWords (words_of bytes.now tokens.now)) }
     ensures none { IfOk result (λ o. o ≡ None → (line : ℕ) (s : Stretch)
         → IsWhere bytes.now (Syntax line) s → ⊥) }
@@ -34,7 +34,7 @@ pub(crate) fn item_told(alloc: Global, bytes: &[u8], tokens: &[Token]) -> Result
     match first_wrong(alloc, bytes, tokens)? {
         Some(k) => Ok(Some(Told {
             word: stretch_at(tokens, k),
-            used: None,
+            uses: Items::new(alloc),
         })),
         None => Ok(None),
     }

@@ -6,22 +6,40 @@ mod clash;
 mod declarations;
 mod explain;
 mod find;
+mod flaw_laws;
 mod item_place;
+mod late;
 mod laws;
+mod limit_laws;
+mod limit_told;
 mod parameters;
+mod part;
+mod part_laws;
 mod picture;
 mod place;
+mod read_laws;
+mod read_told;
+mod token_words;
 mod told;
-mod uses;
+mod undefined_laws;
+mod undefined_told;
+mod use_laws;
+mod use_told;
 mod walk;
 
 pub use advice::length_advice;
 pub use explain::push_explanation;
 pub use find::Beginning;
+pub use flaw_laws::{flaw_places, flaws_by_hand};
 pub use laws::{
     by_the_grammar, explanations_by_hand, one_explanation, one_place, one_place_text,
-    places_by_hand,
+    one_placed_file, path_places, places_by_hand,
 };
+pub use limit_laws::limit_places;
+pub use part_laws::part_places;
 pub use picture::push_place;
 pub use place::{Position, Stretch, position_of};
+pub use read_laws::read_places;
 pub use told::{Told, place_of};
+pub use undefined_laws::undefined_places;
+pub use use_laws::{use_places, use_places_by_hand};

@@ -10,7 +10,7 @@ ghost use Rattle.sap_where.specs.Where.{HoldsOnce, IsRepeatedAt, IsSecond, IsWhe
 ghost use Rattle.sap_where.specs.declared.place.Stretch.{Stretch};
 
 use crate::place::Stretch;
-use crate::uses::{is_named, stands};
+use crate::token_words::{is_named, stands};
 use crate::walk::stretch_at;
 use sap_grammar::beyond;
 use sap_spot::has_name;

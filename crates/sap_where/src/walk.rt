@@ -6,17 +6,16 @@ ghost use Rattle.sap_text.specs.declared.token.Token.{Token};
 ghost use Rattle.sap_grammar.specs.Words.{starts, words_of};
 ghost use Rattle.sap_grammar.specs.Reading.{name_at};
 ghost use Rattle.sap_read.specs.Files.{AreTokens, IsRead};
-ghost use Rattle.sap_read.specs.declared.fault.ReadFault.TheVariants.{FunctionClash, Header, Lex as LexFault, Parameters, Syntax, UnknownProcess};
+ghost use Rattle.sap_read.specs.declared.fault.ReadFault.TheVariants.{FunctionClash, Header, Lex as LexFault, Parameters, Syntax};
 ghost use Rattle.sap_text.specs.declared.fault.Lex.{Lex};
 ghost use Rattle.sap_where.specs.Parameters.{IsParameter};
 ghost use Rattle.sap_where.specs.declared.place.Stretch.{Stretch};
-ghost use Rattle.sap_where.specs.Where.{BeginsAt, HoldsOnce, IsFirst, IsSecond, IsTakenAt, IsTakenNowhere, IsWhere, HasPlace, StartsFile, end_of, offset_of, one_byte, stretch_at};
+ghost use Rattle.sap_where.specs.Where.{BeginsAt, HoldsOnce, IsFirst, IsSecond, IsTakenAt, IsTakenNowhere, IsWhere, StartsFile, end_of, offset_of, one_byte, stretch_at};
 ghost use Rattle.sap_expect.specs.FirstWrong.{IsFirstWrong};
 
 use crate::find::{Beginning, first, second};
 use crate::parameters::parameter_place;
 use crate::place::Stretch;
-use crate::uses::use_place;
 use sap_grammar::{beyond, name_at, starts};
 use sap_read::ReadFault;
 use sap_terms::{MOST_FILE_NAME_BYTES, Mem};
@@ -142,7 +141,6 @@ fn place_among(bytes: &[u8], tokens: &[Token], fault: &ReadFault) -> Option<Stre
     requires no_byte { (f : Lex) → fault.now ≡ LexFault f → ⊥ }
     requires no_item { (line : ℕ) → fault.now ≡ Syntax line → ⊥ }
     requires no_clash { (x : List ℕ) → fault.now ≡ FunctionClash x → ⊥ }
-    requires no_use { (x : List ℕ) → fault.now ≡ UnknownProcess x → ⊥ }
     requires no_parameter { (x : List ℕ) → fault.now ≡ Parameters x → ⊥ }
     ensures place { IfSome result (λ s. IsWhere bytes.now fault.now s) }
     ensures inside { IfSome result (λ s. s.from ≤ length bytes.now) }
@@ -167,7 +165,7 @@ fn place_among(bytes: &[u8], tokens: &[Token], fault: &ReadFault) -> Option<Stre
     }
 }
 
-/// The same, or where a name that isn't defined is used, or where a parameter stands a second time.
+/// The same, or where a parameter stands a second time.
 pub(crate) fn place_in(bytes: &[u8], tokens: &[Token], fault: &ReadFault) -> Option<Stretch>
     requires are { AreTokens bytes.now tokens.now }
     requires within { All (IsWithin (length bytes.now)) tokens.now }
@@ -184,7 +182,6 @@ pub(crate) fn place_in(bytes: &[u8], tokens: &[Token], fault: &ReadFault) -> Opt
     ensures none { result ≡ None → (s : Stretch) → IsWhere bytes.now fault.now s → ⊥ }
 {
     match fault {
-        ReadFault::UnknownProcess { name } => use_place(bytes, tokens, name),
         ReadFault::Parameters { name } => parameter_place(bytes, tokens, name),
         _ => place_among(bytes, tokens, fault),
     }

@@ -4,22 +4,13 @@ use Rattle.sap_spot.proofs.laws.words_by_hand.Goals as goal
 
 pub returns : goal.returns
 returns c = record {
-  locks = (refl, refl);
-  no_locks = (refl, refl, refl);
   uses = refl;
   no_uses = (refl, refl, refl);
-  signs = (refl, refl, refl);
   flaws = fits;
   bodies = fits_body;
   no_bodies = λ w. (refl, refl, refl);
   scopes = (refl, refl, refl);
-  formulas = (refl, refl, refl, refl, refl);
-  faults = (refl, refl, refl, refl);
-  no_faults = (refl, refl, refl, refl);
-  arguments = (refl, refl, refl, refl);
-  no_arguments = (refl, refl, refl, refl);
-  limits = (refl, refl, refl, refl);
-  silent = (refl, refl, refl, refl, refl, refl);
+  silent = (refl, refl, refl, refl, refl, refl, refl, refl, refl, refl, refl, refl, refl);
   stands = (in_definition, in_process);
   not_there = (in_other, not_behind, not_itself, not_inside, not_beyond);
 }

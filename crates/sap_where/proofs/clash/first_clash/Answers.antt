@@ -1,4 +1,4 @@
-use Rattle.std.proofs.Common.{◌≡◌, ℕ, List, None, length, subst, arith}
+use Rattle.std.proofs.Common.{◌≡◌, ℕ, None, length, subst, arith}
 use Rattle.sap_terms.specs.Signature.{pairs_alone}
 use Rattle.sap_grammar.specs.Signatures.{clash_from}
 use Rattle.sap_where.specs.FileDeclarations.{declared_before}

@@ -1,8 +1,8 @@
-use Rattle.std.proofs.Common.{◌≡◌, List, Option, subst, sym}
-use Rattle.std.specs.Prelude.{OnOk, IfOk}
+use Rattle.std.proofs.Common.{◌≡◌, Option, subst, sym}
+use Rattle.std.specs.Prelude.{OnOk}
 use Rattle.sap_grammar.specs.Words.{words_of}
 use Rattle.sap_grammar.specs.Declarations.{Declaration}
-use Rattle.sap_where.specs.code.Declaring.{clash_of, with_given}
+use Rattle.sap_where.specs.code.Declaring.{with_given}
 use Rattle.sap_where.proofs.Declaring.{builtin_declared}
 use Rattle.sap_where.proofs.declarations.add_builtin_at.Goals as goal
 

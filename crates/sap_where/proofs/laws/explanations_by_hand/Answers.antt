@@ -1,17 +1,25 @@
-use Rattle.std.proofs.Common.{◌≡◌, ◌≤◌, ◌<◌, ◌+◌, ℕ, zero, suc, [], ◌∷◌, None, refl, sym, ap, subst, arith}
+use Rattle.std.proofs.Common.{◌≡◌, ◌≤◌, ◌<◌, ◌+◌, ℕ, zero, suc, [], ◌∷◌, true, false, refl, sym, ap, subst, arith}
 use Rattle.std.proofs.lemmas.List.{append-nil}
-use Rattle.std.specs.Prelude.{List, ◌++◌}
+use Rattle.std.specs.Prelude.{List, ◌++◌, codes}
+use Rattle.std.specs.Str.{bytes_eq}
+use Rattle.std.proofs.lemmas.Fmt.{decimal_digit}
+use Rattle.std.proofs.lemmas.Slice.Eq.{bytes_eq-Decides}
 use Rattle.sap_read.specs.declared.fault.ReadFault.TheVariants.{Lex, NoProcess}
 use Rattle.sap_text.specs.declared.fault.Lex.TheVariants.{BadByte}
 use Rattle.sap_where.specs.declared.place.Stretch.{Stretch}
 use Rattle.sap_where.specs.declared.told.Told.{Told}
 use Rattle.sap_where.specs.Positions.{IsFeed, IsPlaceText, IsPosition, LineBegins, LineEnds}
-use Rattle.sap_where.specs.Told.{IsTold, at_its_place}
+use Rattle.sap_where.specs.Told.{IsPlaceOf, IsTold, at_its_place, by_words}
 use Rattle.sap_where.specs.Where.{IsWhere, at_byte}
 use Rattle.sap_where.specs.Advice.{advice}
-use Rattle.sap_where.specs.Explained.{IsPlaceTold, somewhere, unused, used, nowhere}
-use Rattle.sap_where.specs.ExplainedExamples.{one_mark, shown_byte, uses}
+use Rattle.sap_where.specs.Explained.{AreUseTexts, AreUsesTold, IsPlaceTold, IsUseText, a_use, no_use, nowhere, somewhere}
+use Rattle.sap_where.specs.ExplainedExamples.{first_use, first_word, four_uses, four_words, nine_words, one_mark, second_use, shown_byte, used_word, uses}
+use Rattle.sap_origin.specs.Examples.{both, small}
+use Rattle.sap_origin.specs.Reached.{reaches_here, reaches_left, reaches_right, reaches_use}
 use Rattle.sap_where.proofs.Loose.{told_at}
+use Rattle.sap_where.proofs.PathTold.{without_path}
+use Rattle.sap_where.proofs.Positions.{one_position}
+use Rattle.sap_where.proofs.Telling.{one_uses_text}
 use Rattle.sap_where.proofs.laws.explanations_by_hand.Goals as goal
 
 only_one : (k : ℕ) → k + 1 ≡ 2 → k ≡ 1
@@ -35,8 +43,11 @@ second = record {
   column = refl;
 }
 
-no_place : (s : Stretch) → IsWhere [] NoProcess s → ⊥
-no_place s w = elim w [ ]
+no_words : (s : Stretch) → IsWhere [] NoProcess s → ⊥
+no_words s w = elim w [ ]
+
+no_place : (t : Told) → IsPlaceOf [] NoProcess t → ⊥
+no_place = without_path [] NoProcess refl (λ t r. r) no_words
 
 abbrev byte : Stretch
 byte = record { from = 0; to = 1 }
@@ -72,16 +83,16 @@ byte_text = record {
 }
 
 abbrev told : Told
-told = record { word = byte; used = None }
+told = record { word = byte; uses = [] }
 
-at_first : IsWhere one_mark (Lex (BadByte 0)) byte
-at_first = at_byte refl (omega arith) refl
+at_byte_0 : IsWhere one_mark (Lex (BadByte 0)) byte
+at_byte_0 = at_byte refl (omega arith) refl
 
 is_told : IsTold one_mark (Lex (BadByte 0)) told
-is_told = at_its_place at_first refl
+is_told = at_its_place (by_words at_byte_0 refl)
 
 place_told : IsPlaceTold one_mark (Lex (BadByte 0)) (shown_byte ++ [])
-place_told = somewhere is_told byte_text unused
+place_told = somewhere is_told byte_text (record { texts = []; are = no_use; text = refl })
 
 pub returns-clause-somewhere : goal.returns-clause-somewhere
 returns-clause-somewhere c = record {
@@ -93,14 +104,128 @@ returns-clause-somewhere c = record {
 pub returns-clause-nowhere : goal.returns-clause-nowhere
 returns-clause-nowhere c = record { place = []; is_place = nowhere no_place; text = refl }
 
+-- the name on the first line, and what is told of each use
+first : IsPosition uses 0 (record { line = 1; column = 1 })
+first = record {
+  from = 0;
+  begins = record {
+    order = omega arith;
+    begins = λ k e. absurd (omega (arith, e));
+    no_feed = λ k le lt. absurd (omega (arith, lt));
+  };
+  line = refl;
+  column = refl;
+}
+
+at_second : IsUseText uses used_word second_use
+at_second = record {
+  position = record { line = 2; column = 2 };
+  is_position = second;
+  text = ap (λ (d : List ℕ). codes "in P, used at line " ++ (d ++ (10 ∷ []))) (sym (decimal_digit 2 (omega arith)));
+}
+
+at_first : IsUseText uses first_word first_use
+at_first = record {
+  position = record { line = 1; column = 1 };
+  is_position = first;
+  text = ap (λ (d : List ℕ). codes "in P, used at line " ++ (d ++ (10 ∷ []))) (sym (decimal_digit 1 (omega arith)));
+}
+
+-- one use, two, and eight
+abbrev one_told : AreUseTexts uses (used_word ∷ []) (second_use ++ [])
+one_told = a_use at_second no_use
+
+two_told : AreUseTexts uses (used_word ∷ first_word ∷ []) (second_use ++ (first_use ++ []))
+two_told = a_use at_second (a_use at_first no_use)
+
+more_told : {us : List Stretch} {t : List ℕ} → AreUseTexts uses us t → AreUseTexts uses (four_words ++ us) (first_use ++ (first_use ++ (first_use ++ (first_use ++ t))))
+more_told h = a_use at_first (a_use at_first (a_use at_first (a_use at_first h)))
+
+eight_told : AreUseTexts uses (four_words ++ four_words) (first_use ++ (first_use ++ (first_use ++ (first_use ++ (first_use ++ (first_use ++ (first_use ++ (first_use ++ []))))))))
+eight_told = more_told (more_told no_use)
+
+is_used : AreUsesTold uses (used_word ∷ []) second_use
+is_used = record { texts = _; are = one_told; text = refl }
+
+are_two : AreUsesTold uses (used_word ∷ first_word ∷ []) (second_use ++ first_use)
+are_two = record { texts = _; are = two_told; text = refl }
+
+are_nine : AreUsesTold uses nine_words (four_uses ++ (four_uses ++ codes "and 1 more\n"))
+are_nine = record {
+  texts = _;
+  are = eight_told;
+  text = ap (λ (d : List ℕ). four_uses ++ (four_uses ++ (codes "and " ++ (d ++ codes " more\n")))) (sym (decimal_digit 1 (omega arith)));
+}
+
+-- another text is not told
+not_told : {us : List Stretch} {t : List ℕ} (x : List ℕ) → AreUsesTold uses us t → bytes_eq t x ≡ false → AreUsesTold uses us x → ⊥
+not_told {us = us} {t = t} x h other g =
+    let same : t ≡ x = one_uses_text one_position uses us us t x refl h g in
+    let equal : bytes_eq t x ≡ true = (bytes_eq-Decides t x).1 same in
+    absurd (cc (other, equal))
+
 pub returns-clause-used : goal.returns-clause-used
-returns-clause-used c = used second
+returns-clause-used c = is_used
 
 pub returns-clause-unused : goal.returns-clause-unused
-returns-clause-unused c = unused
+returns-clause-unused c = record { texts = []; are = no_use; text = refl }
 
-pub returns-clause-either_use : goal.returns-clause-either_use
-returns-clause-either_use c = λ are. (told_at _ 1 (omega arith) (omega arith) refl are, told_at _ 2 (omega arith) (omega arith) refl are)
+pub returns-clause-two : goal.returns-clause-two
+returns-clause-two c = are_two
+
+pub returns-clause-eight : goal.returns-clause-eight
+returns-clause-eight c = record { texts = _; are = eight_told; text = refl }
+
+pub returns-clause-nine : goal.returns-clause-nine
+returns-clause-nine c = are_nine
+
+pub returns-clause-not_untold : goal.returns-clause-not_untold
+returns-clause-not_untold c = not_told [] is_used refl
+
+pub returns-clause-not_reversed : goal.returns-clause-not_reversed
+returns-clause-not_reversed c = not_told (first_use ++ second_use) are_two refl
+
+pub returns-clause-not_one : goal.returns-clause-not_one
+returns-clause-not_one c = (not_told second_use are_two refl, not_told first_use are_two refl)
+
+pub returns-clause-not_nine : goal.returns-clause-not_nine
+returns-clause-not_nine c = (
+  not_told (four_uses ++ (four_uses ++ second_use)) are_nine refl,
+  not_told (four_uses ++ four_uses) are_nine refl,
+  not_told (four_uses ++ (four_uses ++ codes "and 9 more\n")) are_nine refl,
+)
+
+pub returns-clause-paths : goal.returns-clause-paths
+returns-clause-paths c = λ path w. (refl, refl, refl)
+
+pub returns-clause-left : goal.returns-clause-left
+returns-clause-left c = (refl, refl, λ e. let from : 6 ≡ 4 = ap (λ (s : Stretch). s.from) e in absurd (omega (arith, from)))
+
+pub returns-clause-along : goal.returns-clause-along
+returns-clause-along c = λ z ts placed. (
+  record {
+    tokens = ts;
+    definitions = both;
+    main = record { process = small; behind = 1 };
+    placed = placed;
+    standing = _;
+    place = _;
+    reaches = reaches_left (reaches_use refl (reaches_use refl (reaches_here tt)));
+    word_is = refl;
+    uses_are = refl;
+  },
+  record {
+    tokens = ts;
+    definitions = both;
+    main = record { process = small; behind = 1 };
+    placed = placed;
+    standing = _;
+    place = _;
+    reaches = reaches_right (reaches_here tt);
+    word_is = refl;
+    uses_are = refl;
+  },
+)
 
 pub returns-clause-either_name : goal.returns-clause-either_name
 returns-clause-either_name c = λ are. (told_at _ 1 (omega arith) (omega arith) refl are, told_at _ 2 (omega arith) (omega arith) refl are)

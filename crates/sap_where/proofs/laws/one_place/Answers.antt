@@ -3,7 +3,7 @@ use Rattle.std.specs.Prelude.{Ok}
 use Rattle.sap_text.specs.declared.token.Token.{Token}
 use Rattle.sap_text.specs.Tokens.{Lexed}
 use Rattle.sap_terms.specs.declared.limits.TheConstants.{MOST_FILE_NAME_BYTES}
-use Rattle.sap_where.proofs.OnePlace.{one_place_is}
+use Rattle.sap_where.proofs.OnePlace.{one_place_of}
 use Rattle.sap_where.proofs.laws.one_place.Goals as goal
 
 ok_same : (ts us : List Token) → ◌≡◌ {A = Lexed} (Ok ts) (Ok us) → us ≡ ts
@@ -11,4 +11,4 @@ ok_same ts us e = cc
 
 pub returns : goal.returns
 returns c z e s t a b =
-    one_place_is z e s t (λ ts us f g. ok_same ts us (c.one_answer.ensures MOST_FILE_NAME_BYTES z (Ok ts) (Ok us) f g)) a b
+    one_place_of z e s t (λ ts us f g. ok_same ts us (c.one_answer.ensures MOST_FILE_NAME_BYTES z (Ok ts) (Ok us) f g)) c.path_places.ensures.one (c.read_places.ensures.one z e s t) a b

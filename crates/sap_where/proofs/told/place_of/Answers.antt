@@ -6,7 +6,8 @@ use Rattle.sap_where.specs.declared.told.Told.{Told}
 use Rattle.sap_where.specs.Told.{IsTold}
 use Rattle.sap_where.proofs.Faults.{byte_place, byte_told, tokens_told}
 use Rattle.sap_where.proofs.ItemPlace.{place_told_of}
-use Rattle.sap_where.proofs.Nowhere.{tokens_nowhere}
+use Rattle.sap_where.proofs.Nowhere.{no_tokens_nowhere}
+use Rattle.sap_where.proofs.ReadPlaces.{read_tokens}
 use Rattle.sap_where.proofs.told.place_of.Goals as goal
 
 pub returns-in-Lex-clause-place : goal.returns-in-Lex-clause-place
@@ -29,13 +30,21 @@ returns-in-Some-clause-told c =
     (rw c.as_slice.ensures.value at c.told_in.ensures.item)
     (rw c.in-Some.is at c.in_ok-tokens.ensures.are)
     (λ ts line. c.files_are_their_words.ensures.refused c.args.bytes.now ts line)
+    c.told_in.ensures.none
+    (λ path is read. c.path_places.ensures.refused c.args.bytes.now c.args.fault.now path is read)
+    (λ is read. c.read_places.ensures.some c.args.bytes.now c.args.fault.now is read)
 
 pub returns-in-None-clause-none : goal.returns-in-None-clause-none
 returns-in-None-clause-none c = λ n s.
     let none = rw c.in-None.is at c.in_ok-tokens.ensures.are in
-    tokens_nowhere c.args.bytes.now c.args.fault.now c.in_default.not-Lex none s
+    no_tokens_nowhere c.args.bytes.now c.args.fault.now c.in_default.not-Lex none s
 
 pub returns-in-None-clause-told : goal.returns-in-None-clause-told
 returns-in-None-clause-told c = λ h r e.
     let none = rw c.in-None.is at c.in_ok-tokens.ensures.are in
-    tokens_told c.args.bytes.now c.args.fault.now c.in_default.not-Lex none h r
+    tokens_told c.args.bytes.now c.args.fault.now c.in_default.not-Lex none
+    (λ path is read. let at = c.path_places.ensures.refused c.args.bytes.now c.args.fault.now path is read in none at.1.tokens at.1.placed.parted.tokens)
+    (λ is read.
+    let at = c.read_places.ensures.some c.args.bytes.now c.args.fault.now is read in
+    let has = read_tokens c.args.bytes.now c.args.fault.now at.0 at.1 in
+    none has.0 has.1) h r

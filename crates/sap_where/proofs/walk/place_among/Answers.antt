@@ -42,5 +42,5 @@ returns-in_default c = record {
   inside = tt;
   header = λ h n. absurd (c.in_default.not-Header h);
   none = λ n s. other_nowhere c.args.bytes.now c.args.fault.now c.requires.no_byte c.requires.no_item c.requires.no_clash c.in_default.not-Header
-      c.in_default.not-TwoProcesses c.requires.no_use c.requires.no_parameter c.in_default.not-DuplicateName s;
+      c.in_default.not-TwoProcesses c.requires.no_parameter c.in_default.not-DuplicateName s;
 }

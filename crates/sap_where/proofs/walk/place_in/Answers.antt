@@ -1,5 +1,4 @@
 use Rattle.std.proofs.Common.{◌≡◌, ℕ, List, sym, subst, ◌∙◌}
-use Rattle.sap_read.specs.declared.fault.ReadFault.{ReadFault}
 use Rattle.sap_read.specs.declared.fault.ReadFault.TheVariants.{Parameters}
 use Rattle.sap_where.specs.Parameters.{IsParameter}
 use Rattle.sap_where.specs.Where.{HoldsOnce}
