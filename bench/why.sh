@@ -19,7 +19,7 @@
 #
 # For each size it tells the instructions of both, by valgrind, their ratio, which is to be at most 1.75, of `deep` and `nested` 2.2, and
 # what `why` takes to the size before, at most 2.2. Where there are more nodes than there may be, `compile` counts and `why` walks to the first place beyond, which takes
-# some 3 million more: this is most of what it takes of `nodes`, and lifts the ratio of the smallest file of `names` to 2.1. And of each
+# some 11 million more: this is most of what it takes of `nodes`, and lifts the ratio of the smallest file of `names` to 1.8. And of each
 # file of examples/ it tells the instructions of `compile`, and of `why` on it with a lemma that is in no grammar, which are to be fewer.
 #
 # usage: bench/why.sh [KIND..]     `examples` is a kind too

@@ -5,9 +5,10 @@ usage: bench/why_rows.py
 
 `bench/why-marks` has a row for each file, written as the rows of the tables are, with what refuses it behind `%`. `bench/why/` has
 whole files, whose first line is `-- ` and what refuses them. In both `@@` stands before the word at which the mistake is, or behind
-the last word, and `&&` before the name by which the process uses the `let` in which it is; a file without `@@` has no place. What is
-counted here from the marks is line, column, and the bytes of the word, and N in a cause is the offset of the mark. Nothing is taken
-from what the program prints.
+the last word; a file without `@@` has no place. Where one comes to that word through uses of a `let`, `&&` stands before the name of
+the one use, or `&1&`, `&2&` and so on before the names of several, the innermost first. What is counted here from the marks is line,
+column, the bytes of the word, and the lines of the uses, and N in a cause is the offset of the mark. Nothing is taken from what the
+program prints.
 """
 import glob
 import os
@@ -54,6 +55,8 @@ ADVICE = [
 ]
 
 SKIP = re.compile(rb"(?:[ \t\r\n]|//[^\n]*|/\*.*?\*/)*", re.S)
+MARK = re.compile(r"@@|&([0-9]*)&")
+MOST_USES = 8
 WORD = re.compile(rb"[A-Za-z][A-Za-z0-9_]*|[0-9]+|'[ -&(-~]*'|==>|<=>|--\[|\]->|-->|\|\||.", re.S)
 
 
@@ -111,22 +114,44 @@ def picture(data, start, end):
     return text + line + "\n" + " " * (start - left) + "^" * carets + "\n"
 
 
+def unmarked(text):
+    """The text without its marks, where `@@` stood, and where the uses, the innermost first."""
+    bare, at, uses, end = "", None, {}, 0
+    if "@@" not in text:
+        return text, None, []
+    for mark in MARK.finditer(text):
+        if mark.group() == "@@" and at is not None:
+            continue
+        bare += text[end : mark.start()]
+        end = mark.end()
+        if mark.group() == "@@":
+            at = len(bare)
+        else:
+            number = int(mark.group(1) or "1")
+            assert number not in uses, text
+            uses[number] = len(bare)
+    assert sorted(uses) == list(range(1, len(uses) + 1)), text
+    return bare + text[end:], at, [uses[number] for number in sorted(uses)]
+
+
+def used(data, uses):
+    """A line for each use, and how many more there are."""
+    text = ""
+    for use in uses[:MOST_USES]:
+        text += "in %s, used at line %d\n" % (WORD.match(data, use).group().decode(), data.count(b"\n", 0, use) + 1)
+    return text + ("and %d more\n" % (len(uses) - MOST_USES) if len(uses) > MOST_USES else "")
+
+
 def expected(marked, cause):
     """The file, and all that is told of it."""
     if cause == "accepted":
         return marked, "accepted\n"
-    bare = marked.replace(b"@@", b"", 1).replace(b"&&", b"", 1) if b"@@" in marked else marked
-    text = ""
-    if b"@@" in marked:
-        at = marked.replace(b"&&", b"", 1).index(b"@@")
-        text = picture(bare, *place(bare, at, cause))
-        if b"&&" in marked:
-            use = marked.replace(b"@@", b"", 1).index(b"&&")
-            name = WORD.match(bare, use).group().decode()
-            text += "in %s, used at line %d\n" % (name, bare.count(b"\n", 0, use) + 1)
+    bare, at, uses = unmarked(marked.decode("latin-1"))
+    bare = bare.encode("latin-1")
+    text, told = "", cause
+    if at is not None:
+        text = picture(bare, *place(bare, at, cause)) + used(bare, uses)
         told = cause.replace("byte N", "byte %d" % at)
-    else:
-        told = cause
     advice = [sentence for form, sentence in ADVICE if re.fullmatch(form, cause)]
     assert len(advice) == 1, cause
     return bare, "file refused: " + told + "\n" + text + advice[0] + "\n"
@@ -138,7 +163,7 @@ def of_marks(row):
     bytes_ = written(file)
     whole = bytes_[1:] if file.startswith("=") else b"theory T begin " + bytes_ + b" end"
     _, told = expected(whole, written(cause).decode())
-    return file.replace("@@", "", 1).replace("&&", "", 1) + " % " + shown(told.encode("latin-1"))
+    return unmarked(file)[0] + " % " + shown(told.encode("latin-1"))
 
 
 def of_file(path):
