@@ -3,47 +3,37 @@ ghost use Rattle.std.specs.Prelude.{◌<◌};
 
 use crate::desk::Desk;
 use crate::json::{example_row, show_inside};
-use crate::notation::{between, enclosed, file_bytes, number, part, parted};
+use crate::notation::{enclosed, file_bytes, number, part, parted};
 use crate::page::Page;
-use crate::theories::show_read;
+use crate::theories::show_back;
 use sap_outside::{Asked, Rest};
+use sap_terms::Items;
 use sap_tool::{MemShelf, MemSink, sapic};
 use std::collections::BTreeMap;
 use std::str;
 
 // The words, with a blank between each two.
 fn words_of(page: &mut Page, text: &str) -> Vec<String> {
-    let mut words = Vec::new(page.alloc);
+    let mut words = Items::new(page.alloc);
     for word in text.split_whitespace() {
-        match String::from_str(page.alloc, word) {
-            Ok(word) => {
-                if words.push(word).is_err() {
-                    page.fail();
-                }
-            }
-            Err(_) => page.fail(),
-        }
+        page.put(&mut words, String::from_str(page.alloc, word).ok());
     }
-    words
+    words.into_vec()
 }
 
 // A sink with these failures, parted by commas: `1 5` where the first call fails after five bytes.
 fn sink(page: &mut Page, failures: &str) -> MemSink {
-    let mut fail_on = Vec::new(page.alloc);
+    let mut fail_on = Items::new(page.alloc);
     for failure in failures.split(',') {
         if !failure.is_empty() {
             let (call, taken) = parted(failure.trim());
-            if fail_on
-                .push((number(page, call), number(page, taken)))
-                .is_err()
-            {
-                page.fail();
-            }
+            let failure = (number(page, call), number(page, taken));
+            page.put(&mut fail_on, Some(failure));
         }
     }
     MemSink {
         bytes: Vec::new(page.alloc),
-        fail_on,
+        fail_on: fail_on.into_vec(),
         calls: 0,
         count: 0,
         wants: 0,
@@ -54,11 +44,7 @@ fn sink(page: &mut Page, failures: &str) -> MemSink {
 pub fn put_file(page: &mut Page, files: &mut BTreeMap<String, Vec<u8>>, name: &str, bytes: &[u8]) {
     let name = String::from_str(page.alloc, name).ok();
     match name.zip(bytes.to_vec(page.alloc).ok()) {
-        Some((name, bytes)) => {
-            if files.insert(name, bytes).is_err() {
-                page.fail();
-            }
-        }
+        Some((name, bytes)) => page.note(files.insert(name, bytes)),
         None => page.fail(),
     }
 }
@@ -84,9 +70,7 @@ pub fn shelf_with(
     requires { 0 < piece }
 {
     let mut fail_on = Vec::new(page.alloc);
-    if fail_on.push(failing).is_err() {
-        page.fail();
-    }
+    page.note(fail_on.push(failing));
     MemShelf {
         files,
         fail_on,
@@ -99,88 +83,103 @@ pub fn shelf_with(
     }
 }
 
+// What the sink took, if anything, behind the word.
+fn show_taken(page: &mut Page, word: &str, sink: &MemSink) {
+    if !sink.bytes.is_empty() {
+        page.word(word);
+        page.bytes(sink.bytes.as_slice());
+    }
+}
+
 // The status, and what out and err took.
 fn show_end(page: &mut Page, status: u8, out: &MemSink, err: &MemSink) {
     page.numbered("", status as u64);
-    for (word, sink) in [(" out ", out), (" err ", err)] {
-        if !sink.bytes.is_empty() {
-            page.word(word);
-            page.bytes(sink.bytes.as_slice());
-        }
+    show_taken(page, " out ", out);
+    show_taken(page, " err ", err);
+}
+
+// What is shown of the text of a theory, by the kind: what stands behind the first of these, up to the second or, without it, to the
+// end. Of one without formulas, as `rules` its rules behind the first, as `restrictions` its restrictions; of any, as `short` its rules,
+// as `short-theory` all behind its head; of one of the process `0`, as `formula` that of the lemma l alone, as `inlined` what stands
+// behind its rules, as `items` what stands behind the restriction that the process needs.
+fn cut(kind: &str) -> Option<(&str, &str)> {
+    match kind {
+        "rules" => Some((FIRST_RULE, RESTRICTION)),
+        "restrictions" => Some((RESTRICTION, END)),
+        "short" => Some(("begin\n\n", RESTRICTION)),
+        "short-theory" => Some(("begin\n\n", END)),
+        "formula" => Some(("\nlemma l:\n  all-traces\n  \"", "\"\n")),
+        "inlined" => Some(("\n  [ State_() ] --> [ ]\n", END)),
+        "items" => Some(("#i = #j\"\n", END)),
+        _ => None,
     }
 }
 
-// Of the text of a theory what the kind asks for. Of one without formulas, as `rules` its rules behind the first, as `restrictions`
-// its restrictions; of any, as `short` its rules, as `short-theory` all behind its head; of one of the process `0`, as `formula` that of the lemma l alone, as `inlined` what stands behind its rules, as
-// `items` what stands behind the restriction that the process needs.
-fn cut<'a>(kind: &str, text: &'a str) -> Option<&'a str> {
-    let (before, behind) = match kind {
-        "formula" => ("\nlemma l:\n  all-traces\n  \"", "\"\n\nend\n"),
-        "inlined" => ("\n  [ State_() ] --> [ ]\n", "\nend\n"),
-        "items" => ("#i = #j\"\n", "\nend\n"),
-        "short" | "short-theory" => ("begin\n\n", "\nend\n"),
-        _ => (
-            "theory T\nbegin\n\nrule Init:\n  [ ] --[ Init() ]-> [ State_() ]\n",
-            "\nend\n",
-        ),
-    };
+const FIRST_RULE: &str = "theory T\nbegin\n\nrule Init:\n  [ ] --[ Init() ]-> [ State_() ]\n";
+
+const RESTRICTION: &str = "\nrestriction ";
+
+const END: &str = "\nend\n";
+
+// What the kind asks for of the text of a theory, if it asks for a piece and the text has it.
+fn piece<'a>(kind: &str, text: &'a str) -> Option<&'a str> {
+    let (before, behind) = cut(kind)?;
     let (_, rest) = text.split_once(before)?;
-    let inside = rest.strip_suffix(behind)?;
-    match kind {
-        "rules" | "short" => Some(inside.split_once("\nrestriction ")?.0),
-        "restrictions" => Some(inside.split_once("\nrestriction ")?.1),
-        _ => Some(inside),
-    }
+    let rest = rest.strip_suffix(END)?;
+    Some(rest.split_once(behind).unwrap_or((rest, "")).0)
+}
+
+// All of it where there is no such piece.
+fn show_text(page: &mut Page, kind: &str, text: &str) {
+    page.word(piece(kind, text).unwrap_or(text));
 }
 
 // What out took, without faults: of it what the kind asks for.
-fn show_out(page: &mut Page, kind: &str, out: &MemSink) {
-    let bytes = out.bytes.as_slice();
+fn show_out(page: &mut Page, kind: &str, out: &[u8]) {
     match kind {
         "refusal" => page.word("compiled"),
-        "back" => show_read(page, bytes, true),
-        "text" => page.bytes(bytes),
-        _ => match cut(kind, str::from_utf8(bytes).unwrap_or("")) {
-            Some(inside) => page.word(inside),
-            None => page.bytes(bytes),
-        },
+        "back" => show_back(page, out),
+        _ => show_text(page, kind, str::from_utf8(out).unwrap_or("")),
     }
 }
 
 // What the kind asks for: as `calls` how often the shelf is asked and out and err are written to, the status and the texts; as
 // `theory` the status and the texts; else what out took, the cause that refuses the file, or the status and the texts.
 fn show_call(page: &mut Page, kind: &str, status: u8, asked: u64, out: &MemSink, err: &MemSink) {
-    let cause = between(err.bytes.as_slice(), "file refused: ", "\n");
-    match (kind, cause) {
-        ("calls", _) => {
-            page.numbered("", asked);
-            page.numbered(" ", out.calls);
-            page.numbered(" ", err.calls);
-            page.word(", ");
-            show_end(page, status, out, err);
+    if kind == "calls" {
+        page.numbered("", asked);
+        page.numbered(" ", out.calls);
+        page.numbered(" ", err.calls);
+        page.word(", ");
+        show_end(page, status, out, err);
+    } else if kind != "theory" && status == 0 && err.bytes.is_empty() {
+        show_out(page, kind, out.bytes.as_slice());
+    } else if kind != "theory" && status == 1 && out.bytes.is_empty() {
+        page.inside(err.bytes.as_slice(), "file refused: ", "\n");
+    } else {
+        show_end(page, status, out, err);
+    }
+}
+
+fn show_asked(page: &mut Page, asked: &Asked) {
+    match asked {
+        Asked::Fetch { name, limit } => {
+            page.word("fetch ");
+            page.word(name.as_str());
+            page.numbered(" ", *limit);
         }
-        ("theory", _) => show_end(page, status, out, err),
-        (_, Some(cause)) if status == 1 && out.bytes.is_empty() => page.bytes(cause),
-        _ if status == 0 && err.bytes.is_empty() => show_out(page, kind, out),
-        _ => show_end(page, status, out, err),
+        Asked::Begin { name } => {
+            page.word("begin ");
+            page.word(name.as_str());
+        }
+        Asked::Next { most } => page.numbered("next ", *most),
     }
 }
 
 // Each with a semicolon behind it.
 fn show_requests(page: &mut Page, requests: &[Asked]) {
     for asked in requests {
-        match asked {
-            Asked::Fetch { name, limit } => {
-                page.word("fetch ");
-                page.word(name.as_str());
-                page.numbered(" ", *limit);
-            }
-            Asked::Begin { name } => {
-                page.word("begin ");
-                page.word(name.as_str());
-            }
-            Asked::Next { most } => page.numbered("next ", *most),
-        }
+        show_asked(page, asked);
         page.word(";");
     }
 }
@@ -212,15 +211,9 @@ pub fn calls_row(page: &mut Page, table: &str, row: &str) {
     let run = enclosed(page.alloc, "", part(row, 2), "");
     let (failing, faults) = parted(part(row, 3));
     let failing = number(page, failing);
-    let piece = number(page, part(row, 4));
-    if piece == 0 {
-        page.fail();
-        return;
-    }
+    let piece = number(page, part(row, 4)).max(1);
     let mut shelf = shelf_of(page, file.as_bytes(), run.as_bytes(), failing, piece);
-    if !faults.is_empty() {
-        shelf.count = number(page, faults);
-    }
+    shelf.count = faults.parse::<u64>().unwrap_or(0);
     call(
         page,
         table,

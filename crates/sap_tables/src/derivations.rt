@@ -9,7 +9,7 @@ use crate::page::Page;
 use crate::show::Show;
 use sap_derive::{Derivation, Line, Search, derive};
 use sap_rewrite::is_message;
-use sap_terms::{Copied, MOST_TERM_NODES, Mem, Signature, Sort, Term, TermList};
+use sap_terms::{Copied, Items, MOST_TERM_NODES, Mem, Signature, Sort, Term, TermList};
 use std::alloc::Global;
 
 // As a line of a run has it.
@@ -76,8 +76,35 @@ fn show_derived(page: &mut Page, sig: &Signature, entries: &[Term], goal: &Term)
     }
 }
 
-// As `search` shows what is found of each term in turn, with a line feed behind that. Else enters each, as `deduce` behind whether it
-// can be deduced.
+// As `search` shows what is found of the term, as `deduce` whether it can be deduced, with a line feed behind that. Enters it, if it
+// isn't searched for.
+fn take(
+    page: &mut Page,
+    sig: &Signature,
+    search: &mut Search,
+    t: &Term,
+    kind: &str,
+) -> Result<(), Mem>
+    requires { search.old.sig ≡ sig.now }
+    ensures { search.new.sig ≡ sig.now }
+{
+    if !is_small(page.alloc, sig, t)? {
+        page.fail();
+        return Ok(());
+    }
+    if kind == "search" {
+        page.show(search.find(page.alloc, t));
+        page.byte(b'\n');
+        return Ok(());
+    }
+    if kind == "deduce" {
+        page.show(search.deduces(page.alloc, t));
+        page.byte(b'\n');
+    }
+    search.enter(page.alloc, t)
+}
+
+// The same of each term in turn.
 fn take_each(
     page: &mut Page,
     sig: &Signature,
@@ -88,23 +115,8 @@ fn take_each(
     requires { search.old.sig ≡ sig.now }
     ensures { search.new.sig ≡ sig.now }
 {
-    let mut is_first = true;
     for t in terms {
-        if !is_small(page.alloc, sig, t)? {
-            page.fail();
-        } else if kind == "search" {
-            page.show(search.find(page.alloc, t));
-            page.byte(b'\n');
-        } else {
-            if kind == "deduce" {
-                if !is_first {
-                    page.byte(b' ');
-                }
-                page.show(search.deduces(page.alloc, t));
-                is_first = false;
-            }
-            search.enter(page.alloc, t)?;
-        }
+        take(page, sig, search, t, kind)?;
     }
     Ok(())
 }
@@ -128,15 +140,26 @@ fn show_searched(
 /// goals there are.
 pub fn derivations_row(page: &mut Page, desk: &mut Desk, row: &str) {
     desk.begin(page, part(row, 1), part(row, 2));
-    let goals = list::<Term>(page, &desk.signature, '|', part(row, 3));
-    let entries = desk.terms.as_slice();
-    match (part(row, 0), goals.as_slice()) {
-        ("derive", [goal]) => show_derived(page, &desk.signature, entries, goal),
-        ("read", goals) => page.numbered("", goals.len() as u64),
-        (kind, goals) => {
-            if show_searched(page, &desk.signature, entries, goals, kind).is_err() {
-                page.fail();
-            }
+    let goals: Items<Term> = list(page, &desk.signature, '|', part(row, 3));
+    show_goals(
+        page,
+        &desk.signature,
+        part(row, 0),
+        desk.terms.as_slice(),
+        goals.as_slice(),
+    );
+}
+
+fn show_goals(page: &mut Page, sig: &Signature, kind: &str, entries: &[Term], goals: &[Term]) {
+    match kind {
+        "derive" => match goals {
+            [goal] => show_derived(page, sig, entries, goal),
+            _ => page.fail(),
+        },
+        "read" => page.numbered("", goals.len() as u64),
+        _ => {
+            let searched = show_searched(page, sig, entries, goals, kind);
+            page.note(searched);
         }
     }
 }

@@ -5,7 +5,7 @@ use sap_calc::Config;
 use sap_facts::Pile;
 use sap_rule::Theory;
 use sap_steps::RuleState;
-use sap_terms::{Items, Signature, Term};
+use sap_terms::{Copied, Items, Signature, Term};
 use sap_tool::MemShelf;
 
 /// The symbols and terms of a row, and facts, a theory, a run of rules and one of a process, and files by name.
@@ -48,10 +48,12 @@ pub fn empty_desk(page: &mut Page, shelf: MemShelf) -> Option<Box<Desk>> {
 }
 
 impl Desk {
-    /// Begins a row over these symbols, with the terms that the text spells, with bars between them.
+    /// Begins a row over these symbols, with copies of the terms that the text spells, with bars between them.
     pub fn begin(&mut self, page: &mut Page, symbols: &str, terms: &str) {
         let signature = signature(page, symbols);
         page.set(&mut self.signature, signature);
-        self.terms = list(page, &self.signature, '|', terms);
+        let terms: Items<Term> = list(page, &self.signature, '|', terms);
+        page.set(&mut self.terms, terms.copy(page.alloc).ok());
+        drop(terms);
     }
 }

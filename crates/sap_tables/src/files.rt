@@ -3,30 +3,36 @@ use crate::notation::{file_bytes, list, part};
 use crate::page::Page;
 use crate::show::show_process;
 use sap_place::places;
-use sap_process::{Process, substitute};
+use sap_process::{Children, Process, substitute};
 use sap_read::{File, read_file_boxed};
-use sap_terms::{Bindings, Mem, Signature};
+use sap_terms::{Bindings, Mem, Signature, Symbol};
 use std::alloc::Global;
 
-// The symbols behind those of pairs, in brackets.
-fn show_symbols(page: &mut Page, sig: &Signature) {
+// The symbols, in brackets.
+fn show_symbols(page: &mut Page, symbols: &[Symbol]) {
     page.word("[");
-    if let [_, _, _, others @ ..] = sig.symbols() {
-        for symbol in others {
-            page.named("", &symbol.name);
-            page.numbered("/", symbol.arity);
-            page.word(if symbol.private { "p " } else { " " });
-        }
+    for symbol in symbols {
+        page.named("", &symbol.name);
+        page.numbered("/", symbol.arity);
+        page.word(if symbol.private { "p " } else { " " });
     }
     page.word("] ");
 }
 
+// The symbols behind those of pairs, and the process.
+fn show_file(page: &mut Page, file: &File) {
+    if let [_, _, _, others @ ..] = file.signature.symbols() {
+        show_symbols(page, others);
+    }
+    show_process(page, &file.process);
+}
+
 // The copy of a file.
 fn show_copy(page: &mut Page, file: &File) {
-    match &file.boxed_copy(page.alloc) {
+    match file.boxed_copy(page.alloc) {
         Ok(copy) => {
-            show_symbols(page, &copy.signature);
-            show_process(page, &copy.process);
+            show_file(page, &copy);
+            drop(copy);
         }
         Err(_) => page.fail(),
     }
@@ -36,37 +42,53 @@ fn instance(alloc: Global, p: &Process, b: &Bindings) -> Result<Box<Process>, Me
     Ok(Box::new(alloc, substitute(alloc, p, b)?)?)
 }
 
-fn show_instance(page: &mut Page, sig: &Signature, p: &Process, bound: &str) {
-    let bindings = list(page, sig, ';', bound);
-    match &instance(page.alloc, p, &bindings) {
-        Ok(instance) => show_process(page, instance),
+fn show_instance(page: &mut Page, p: &Process, bound: Bindings) {
+    match instance(page.alloc, p, &bound) {
+        Ok(instance) => {
+            show_process(page, &instance);
+            drop(instance);
+        }
         Err(_) => page.fail(),
     }
 }
 
-fn show_kind(page: &mut Page, sig: &Signature, file: &File, row: &str) {
-    match (part(row, 0), &file.process) {
-        ("process", _) => show_copy(page, file),
-        ("places", p) => page.show(places(page.alloc, p)),
-        ("size", p) => {
-            page.numbered("", p.nodes());
-            page.numbered(" ", p.levels());
-        }
-        ("whole", p) => show_instance(page, sig, p, part(row, 2)),
-        ("behind", Process::In(_, rest) | Process::New(_, rest)) => {
-            show_instance(page, sig, rest, part(row, 2))
-        }
-        _ => page.fail(),
+// What follows the head.
+fn rest(p: &Process) -> &Process {
+    match p.children() {
+        Children::One(rest) | Children::Two(rest, _) => rest,
+        Children::Nothing => p,
     }
 }
 
-/// Of a file that isn't refused: `process`, its symbols behind those of pairs and a copy of its process; `places`, the places of
+fn show_kind(page: &mut Page, sig: &Signature, file: &File, row: &str) {
+    match part(row, 0) {
+        "process" => show_copy(page, file),
+        "places" => page.show_made(places(page.alloc, &file.process)),
+        "size" => {
+            page.numbered("", file.process.nodes());
+            page.numbered(" ", file.process.levels());
+        }
+        "whole" => {
+            let bound = list(page, sig, ';', part(row, 2));
+            show_instance(page, &file.process, bound);
+        }
+        _ => {
+            let bound = list(page, sig, ';', part(row, 2));
+            show_instance(page, rest(&file.process), bound);
+        }
+    }
+}
+
+/// Of a file that isn't refused: `process`, its symbols behind those of pairs and a copy of its process; `places`, copies of the places of
 /// that, each by its facts of control, with the variables in scope, and by the labels of its open locks; `size`, its nodes and
 /// levels; `whole` or `behind`, bindings, and the instance of the process or of what follows a first input or new name.
 pub fn files_row(page: &mut Page, sig: &Signature, row: &str) {
     let bytes = file_bytes(page.alloc, part(row, 1));
-    match &read_file_boxed(page.alloc, bytes.as_bytes()) {
-        Ok(file) => show_kind(page, sig, file, row),
+    match read_file_boxed(page.alloc, bytes.as_bytes()) {
+        Ok(file) => {
+            show_kind(page, sig, &file, row);
+            drop(file);
+        }
         Err(_) => page.fail(),
     }
 }

@@ -1,12 +1,13 @@
 //! Formulas: printed and judged.
 use crate::notation::{enclosed, facts, first, name, part, tokens_of, trace};
 use crate::page::Page;
+use crate::show::Show;
 use crate::theories::begin;
 use sap_formula::{Formula, Lemma, Mode, cost};
 use sap_judge::{ReadyTrace, Verdict, judge};
 use sap_read::read_formula;
 use sap_rule::Theory;
-use sap_terms::{Items, Mem, Signature, Trace};
+use sap_terms::{Items, Signature, Trace};
 use sap_theory::print;
 
 // A fact that may be persistent and have fresh names, at a time: `!F(~n1)@i`.
@@ -35,18 +36,16 @@ pub fn formula(page: &mut Page, sig: &Signature, text: &str) -> Option<Box<Formu
 
 // Adds to the theory the lemma l of this formula, for all traces.
 fn add_lemma(page: &mut Page, t: &mut Theory, formula: Option<Box<Formula>>) {
-    match name(page.alloc, "l").zip(formula) {
-        Some((name, formula)) => page.put(
-            &mut t.lemmas,
-            Some(Lemma {
-                name,
-                attributes: Items::new(page.alloc),
-                mode: Mode::AllTraces,
-                formula: Box::into_inner(formula),
-            }),
-        ),
-        None => page.fail(),
-    }
+    let lemma = match name(page.alloc, "l").zip(formula) {
+        Some((name, formula)) => Some(Lemma {
+            name,
+            attributes: Items::new(page.alloc),
+            mode: Mode::AllTraces,
+            formula: Box::into_inner(formula),
+        }),
+        None => None,
+    };
+    page.put(&mut t.lemmas, lemma);
 }
 
 /// A formula, and its text in the lemma l of a theory in which nothing else stands.
@@ -58,13 +57,24 @@ pub fn formulas_row(page: &mut Page, t: &mut Theory, row: &str) {
     page.text(print(page.alloc, t), before, "\"\n\nend\n");
 }
 
-// What the judge says.
-fn show_verdict(page: &mut Page, verdict: Result<Verdict, Mem>) {
-    match verdict {
-        Ok(Verdict::Holds) => page.word("holds"),
-        Ok(Verdict::Fails) => page.word("fails"),
-        Ok(Verdict::TooCostly { cost }) => page.numbered("costs ", cost),
-        Err(_) => page.fail(),
+impl Show for Verdict {
+    fn show_on(&self, page: &mut Page) {
+        match self {
+            Verdict::Holds => page.word("holds"),
+            Verdict::Fails => page.word("fails"),
+            Verdict::TooCostly { cost } => page.numbered("costs ", *cost),
+        }
+    }
+}
+
+// What the judge says of the formula.
+fn show_judged(page: &mut Page, trace: &Trace, formula: Option<Box<Formula>>) {
+    match formula {
+        Some(f) => {
+            page.show(judge(page.alloc, &f, trace));
+            drop(f);
+        }
+        None => page.fail(),
     }
 }
 
@@ -72,23 +82,35 @@ fn show_verdict(page: &mut Page, verdict: Result<Verdict, Mem>) {
 pub fn judgements_row(page: &mut Page, t: &mut Theory, row: &str) {
     begin(page, t, "");
     let trace = trace(page, &t.signature, part(row, 0));
-    match formula(page, &t.signature, part(row, 1)) {
-        Some(f) => show_verdict(page, judge(page.alloc, &f, &trace)),
-        None => page.fail(),
-    }
+    let formula = formula(page, &t.signature, part(row, 1));
+    show_judged(page, &trace, formula);
 }
 
 // What the formula costs on the trace made ready, and on the trace alone; and what the judge says.
-fn show_costs(page: &mut Page, sig: &Signature, trace: &Trace, ready: &ReadyTrace<'_>, text: &str) {
-    match formula(page, sig, text.trim()) {
+fn show_cost(
+    page: &mut Page,
+    trace: &Trace,
+    ready: &ReadyTrace<'_>,
+    formula: Option<Box<Formula>>,
+) {
+    match formula {
         Some(f) => {
             page.numbered("[", ready.cost(&f));
             page.numbered(" ", cost(&f, trace));
             page.word(" ");
-            show_verdict(page, ready.judge(page.alloc, &f));
+            page.show(ready.judge(page.alloc, &f));
             page.word("]");
+            drop(f);
         }
         None => page.fail(),
+    }
+}
+
+// The same of each formula, with semicolons between them.
+fn show_costs(page: &mut Page, sig: &Signature, trace: &Trace, ready: &ReadyTrace<'_>, text: &str) {
+    for text in text.split(';') {
+        let formula = formula(page, sig, text.trim());
+        show_cost(page, trace, ready, formula);
     }
 }
 
@@ -99,9 +121,8 @@ pub fn costs_row(page: &mut Page, t: &mut Theory, row: &str) {
     let trace = trace(page, &t.signature, part(row, 0));
     match ReadyTrace::of(page.alloc, &trace) {
         Ok(ready) => {
-            for text in part(row, 1).split(';') {
-                show_costs(page, &t.signature, &trace, &ready, text);
-            }
+            show_costs(page, &t.signature, &trace, &ready, part(row, 1));
+            drop(ready);
         }
         Err(_) => page.fail(),
     }

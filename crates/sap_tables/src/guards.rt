@@ -1,23 +1,29 @@
 //! Traces through a guard, one time after another.
 use crate::notation::{part, trace};
 use crate::page::Page;
+use crate::show::Show;
 use crate::theories::begin;
 use sap_refusals::broken_line;
 use sap_restrict::{Admit, Guard, has_one_reserved};
 use sap_rule::Theory;
 use sap_terms::FactList;
 
+impl Show for Admit {
+    fn show_on(&self, page: &mut Page) {
+        match self {
+            Admit::Kept => page.word("+"),
+            Admit::Broken { which } => {
+                let line = broken_line(page.alloc, 0, *which);
+                page.text(line, "run refused: step 0: breaks sapic_", "\n");
+            }
+        }
+    }
+}
+
 // What the guard says of the time; not written as a row is where two of its facts have reserved names.
 fn show_time(page: &mut Page, guard: &mut Guard, time: &FactList) {
     if has_one_reserved(time) {
-        match guard.admit(time) {
-            Ok(Admit::Kept) => page.word("+"),
-            Ok(Admit::Broken { which }) => {
-                let line = broken_line(page.alloc, 0, which);
-                page.text(line, "run refused: step 0: breaks sapic_", "\n");
-            }
-            Err(_) => page.fail(),
-        }
+        page.show(guard.admit(time));
     } else {
         page.fail();
     }

@@ -18,10 +18,7 @@ const RULES: &str = "{\"kind\":\"rule-run\",\"steps\":[";
 /// Why the run is refused, or what stands between these two in the text, or all.
 pub fn show_inside(page: &mut Page, text: &[u8], before: &str, behind: &str) {
     let cause = between(text, "2 err run refused: ", "\n");
-    match cause.or(between(text, before, behind)) {
-        Some(inside) => page.bytes(inside),
-        None => page.bytes(text),
-    }
+    page.bytes(cause.or(between(text, before, behind)).unwrap_or(text));
 }
 
 /// `to` or `from`, the bytes, and what `to-json` or `from-json` writes, or why it refuses them. As `step` and `rule-step` a line of a run

@@ -50,8 +50,9 @@ fn main(rt: HostRuntime) -> io::Result<()> {
     for table in env::args(&rt)?.skip(1) {
         tell_table(&rt, &mut out, table.as_str())?;
     }
-    if !out.is_whole {
-        println!(rt; "want of memory")?;
+    if out.is_whole {
+        rt.stdout().write_all(out.as_bytes())
+    } else {
+        rt.stdout().write_all(b"want of memory\n")
     }
-    rt.stdout().write_all(out.as_bytes())
 }

@@ -3,8 +3,6 @@ use crate::page::Page;
 use sap_grammar::read_facts;
 use sap_read::{FILE_LIMITS, read_term};
 use sap_rule::Rule;
-use sap_run_texts::read_rrun;
-use sap_runs::RStep;
 use sap_terms::{
     Binding, Bindings, Builtin, Copied, Fact, FactList, Items, Mem, Name, SigFault, Signature,
     Sort, Term, TermList, Trace, Var, subst,
@@ -192,6 +190,15 @@ pub fn first<T: Drop>(read: Result<Option<(T, u64)>, Mem>) -> Option<T> {
     }
 }
 
+/// The last of the copies of what is read, in a box.
+pub fn last_copy<T: Copied + Drop, E: Drop>(
+    page: &mut Page,
+    read: Result<Items<T>, E>,
+) -> Option<Box<T>> {
+    let copies = read.ok()?.copy(page.alloc).ok()?;
+    page.boxed(copies.into_vec().pop())
+}
+
 /// The tokens of the bytes; none where a fault stands in them.
 pub fn tokens_of(alloc: Global, bytes: &[u8]) -> Vec<Token> {
     match tokens(alloc, bytes, 64) {
@@ -200,19 +207,27 @@ pub fn tokens_of(alloc: Global, bytes: &[u8]) -> Vec<Token> {
     }
 }
 
-// The fresh names 0 to 9, for which these variables stand.
-const FRESH_NAMES: &str =
-    "rule-run\nrule R with ~n0=~0 ~n1=~1 ~n2=~2 ~n3=~3 ~n4=~4 ~n5=~5 ~n6=~6 ~n7=~7 ~n8=~8 ~n9=~9\n";
+// That a variable of this digit stands for a fresh name of this number: ~n1 for the fresh name 1.
+fn fresh_name(alloc: Global, k: u8) -> Option<Binding> {
+    let name = Name::from_bytes(alloc, [b'n', b'0'.wrapping_add(k)].as_slice()).ok()?;
+    Some(Binding {
+        var: Var {
+            name,
+            sort: Sort::Fresh,
+        },
+        term: Term::Fresh(k as u64),
+    })
+}
 
-// What the variables ~n0 to ~n9 of the text stand for: nothing where it has none.
-fn fresh_names(alloc: Global, text: &str) -> Option<Bindings> {
-    if !text.contains("~n") {
-        return Some(Bindings::new(alloc));
+// What the variables ~n0 to ~n9 of the text stand for, the fresh names 0 to 9: nothing where it has none.
+fn fresh_names(page: &mut Page, text: &str) -> Bindings {
+    let mut names = Bindings::new(page.alloc);
+    if text.contains("~n") {
+        for k in 0..10 {
+            page.put(&mut names, fresh_name(page.alloc, k));
+        }
     }
-    match read_rrun(alloc, FRESH_NAMES.as_bytes()).ok()?.as_slice() {
-        [RStep::Rule(_, _, names)] => names.copy(alloc).ok(),
-        _ => None,
-    }
+    names
 }
 
 // The term with each bound variable replaced, if there is one.
@@ -236,7 +251,7 @@ fn spelled_term(page: &mut Page, sig: &Signature, text: &str) -> Option<Term> {
 
 // The term that the text spells, with fresh names.
 fn named_term(page: &mut Page, sig: &Signature, text: &str) -> Option<Term> {
-    let names = fresh_names(page.alloc, text)?;
+    let names = fresh_names(page, text);
     let term = spelled_term(page, sig, text);
     instance(page.alloc, term, &names)
 }
@@ -268,13 +283,13 @@ fn named_fact(alloc: Global, fact: &Fact, names: &Bindings) -> Option<Fact> {
 pub fn facts(page: &mut Page, sig: &Signature, text: &str) -> FactList {
     let mut list = FactList::new(page.alloc);
     let bytes = enclosed(page.alloc, "", text, " ]");
-    let names = fresh_names(page.alloc, text);
-    match spelled_facts(page.alloc, sig, bytes.as_bytes()).zip(names) {
-        Some((spelled, names)) => {
+    let names = fresh_names(page, text);
+    match spelled_facts(page.alloc, sig, bytes.as_bytes()) {
+        Some(spelled) => {
             for fact in spelled.as_slice() {
-                let fact = named_fact(page.alloc, fact, &names);
-                page.put(&mut list, fact);
+                page.put(&mut list, named_fact(page.alloc, fact, &names));
             }
+            drop(spelled);
         }
         None => page.fail(),
     }

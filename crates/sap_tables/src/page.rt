@@ -1,9 +1,10 @@
 //! The page that a row's answer is written on.
 use crate::notation::between;
 use crate::show::Show;
-use sap_terms::{Items, Mem, Name};
+use sap_terms::{Copied, Items, Mem, Name};
 use sap_text::Text;
 use std::alloc::Global;
+use std::mem;
 
 /// What is found for a row so far. Where a part isn't written as the table's rows are, or memory is wanting, the page isn't
 /// whole, and stays so: who writes on it needn't ask at each word.
@@ -65,20 +66,46 @@ impl Page {
         self.bytes(name.as_bytes());
     }
 
-    /// Puts last what stands between these two in the text.
+    /// Puts last what stands between these two in the bytes; all of them where they don't begin and end so.
+    pub fn inside(&mut self, bytes: &[u8], before: &str, behind: &str) {
+        self.bytes(between(bytes, before, behind).unwrap_or(bytes));
+    }
+
+    /// Puts last what stands between these two in the text, in the same way.
     pub fn text(&mut self, text: Result<Text, Mem>, before: &str, behind: &str) {
-        match &text {
-            Ok(text) => match between(text.as_bytes(), before, behind) {
-                Some(inside) => self.bytes(inside),
-                None => self.fail(),
-            },
+        match text {
+            Ok(text) => {
+                self.inside(text.as_bytes(), before, behind);
+                drop(text);
+            }
             Err(_) => self.fail(),
+        }
+    }
+
+    /// The page isn't whole where this wasn't done.
+    pub fn note<T: Drop, E: Drop>(&mut self, done: Result<T, E>) {
+        if done.is_err() {
+            self.fail();
         }
     }
 
     /// Shows the value, and lets it go.
     pub fn show<T: Show + Drop>(&mut self, value: T) {
         value.show_on(self);
+    }
+
+    /// Shows a copy of the value, and lets both go.
+    pub fn show_copy<T: Copied + Show + Drop>(&mut self, value: T) {
+        self.show(value.copy(self.alloc));
+        drop(value);
+    }
+
+    /// Shows a copy of what was made, or why it wasn't.
+    pub fn show_made<T: Copied + Show + Drop, E: Show + Drop>(&mut self, made: Result<T, E>) {
+        match made {
+            Ok(value) => self.show_copy(value),
+            Err(fault) => self.show(fault),
+        }
     }
 
     /// The value in a box, if there is one and memory for it.
@@ -92,11 +119,7 @@ impl Page {
     /// Puts the value last in the list; without one the page isn't whole.
     pub fn put<T: Drop>(&mut self, list: &mut Items<T>, value: Option<T>) {
         match value {
-            Some(value) => {
-                if list.push(value).is_err() {
-                    self.fail();
-                }
-            }
+            Some(value) => self.note(list.push(value)),
             None => self.fail(),
         }
     }
@@ -104,7 +127,7 @@ impl Page {
     /// Puts the value in the place of another; without one the page isn't whole.
     pub fn set<T: Drop>(&mut self, place: &mut T, value: Option<T>) {
         match value {
-            Some(value) => *place = value,
+            Some(value) => drop(mem::replace(place, value)),
             None => self.fail(),
         }
     }

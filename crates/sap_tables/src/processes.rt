@@ -3,7 +3,7 @@ ghost use Rattle.sap_process.specs.Proc.{proc};
 ghost use Rattle.sap_process.specs.Ready.{IsReady};
 
 use crate::desk::Desk;
-use crate::notation::{enclosed, file_bytes, list, number, part, signature};
+use crate::notation::{enclosed, file_bytes, last_copy, list, number, part, signature};
 use crate::page::Page;
 use crate::show::Show;
 use sap_calc::{Config, PFault};
@@ -12,8 +12,20 @@ use sap_read::{files_are_ready, read_file_boxed};
 use sap_refusals::process_line;
 use sap_run_texts::read_prun;
 use sap_runs::PStep;
-use sap_terms::{Copied, Mem, Signature};
+use sap_terms::{Bindings, Copied, Mem, Signature};
 use std::alloc::Global;
+use std::mem;
+
+// Why a line is refused, in words.
+impl Show for PFault {
+    fn show_on(&self, page: &mut Page) {
+        page.text(
+            process_line(page.alloc, 0, self),
+            "run refused: step 0: ",
+            "\n",
+        );
+    }
+}
 
 fn config_of(alloc: Global, sig: &Signature, p: &Process) -> Result<Box<Config>, Mem>
     requires { IsReady sig.now (proc p.now) }
@@ -21,48 +33,69 @@ fn config_of(alloc: Global, sig: &Signature, p: &Process) -> Result<Box<Config>,
     Ok(Box::new(alloc, Config::start(alloc, sig, p)?)?)
 }
 
+// Begins a run of the process.
+fn begin(page: &mut Page, desk: &mut Desk, sig: &Signature, p: &Process)
+    requires { IsReady sig.now (proc p.now) }
+{
+    page.set(&mut desk.signature, sig.copy(page.alloc).ok());
+    page.set(&mut desk.config, Some(config_of(page.alloc, sig, p).ok()));
+    page.show(desk.config.is_some());
+}
+
 // Begins a run of the file's process.
 fn start(page: &mut Page, desk: &mut Desk, text: &str) {
     files_are_ready();
     let bytes = file_bytes(page.alloc, text);
-    match &read_file_boxed(page.alloc, bytes.as_bytes()) {
+    match read_file_boxed(page.alloc, bytes.as_bytes()) {
         Ok(file) => {
-            let sig = file.signature.copy(page.alloc).ok();
-            page.set(&mut desk.signature, sig);
-            desk.config = config_of(page.alloc, &file.signature, &file.process).ok();
-            page.show(desk.config.is_some());
+            begin(page, desk, &file.signature, &file.process);
+            drop(file);
         }
         Err(_) => page.fail(),
     }
 }
 
-// The copy of a line of a run; an embedded rule's open variables stand for what these bindings say.
-fn line(page: &mut Page, sig: &Signature, text: &str, bound: &str) -> Option<Box<PStep>> {
-    let bytes = enclosed(page.alloc, "process-run\n", text, "\n");
-    let read = read_prun(page.alloc, bytes.as_bytes()).ok()?;
-    let step = read.copy(page.alloc).ok()?.into_vec().pop();
-    let mut step = page.boxed(step)?;
-    if let PStep::Embedded(_, _, bindings) = &mut *step {
-        *bindings = list(page, sig, ';', bound);
+// An embedded rule's open variables stand for what these bindings say.
+fn bind(step: &mut PStep, bound: Bindings) {
+    match step {
+        PStep::Embedded(_, _, bindings) => drop(mem::replace(bindings, bound)),
+        _ => drop(bound),
     }
-    Some(step)
 }
 
-fn take_line(page: &mut Page, sig: &Signature, config: &mut Config, row: &str) {
-    match &line(page, sig, part(row, 1), part(row, 2)) {
-        Some(step) => show_answer(page, &config.step(page.alloc, step)),
+// Takes the line with these bindings, and shows what it shows, or why it is refused.
+fn take_step(page: &mut Page, config: &mut Config, step: Option<Box<PStep>>, bound: Bindings) {
+    match step {
+        Some(mut step) => {
+            bind(&mut step, bound);
+            page.show(config.step(page.alloc, &step));
+            drop(step);
+        }
         None => page.fail(),
     }
 }
 
-// What is answered, or why it is refused.
-fn show_answer<T: Show>(page: &mut Page, answer: &Result<T, PFault>) {
-    match answer {
-        Ok(value) => value.show_on(page),
-        Err(fault) => {
-            let line = process_line(page.alloc, 0, fault);
-            page.text(line, "run refused: step 0: ", "\n");
-        }
+fn take_line(page: &mut Page, sig: &Signature, config: &mut Config, row: &str) {
+    let bytes = enclosed(page.alloc, "process-run\n", part(row, 1), "\n");
+    let bound = list(page, sig, ';', part(row, 2));
+    let step = last_copy(page, read_prun(page.alloc, bytes.as_bytes()));
+    take_step(page, config, step, bound);
+}
+
+// What the kind asks for of the thread or entry of this number.
+fn show_at(page: &mut Page, config: &mut Config, kind: &str, number_of: &str) {
+    let k = number(page, number_of);
+    match kind {
+        "stored" => page.show(config.stored(page.alloc, k)),
+        "channel" => page.show(config.channel(page.alloc, k)),
+        _ => page.show(config.entry(k)),
+    }
+}
+
+fn go_on(page: &mut Page, sig: &Signature, config: &mut Config, row: &str) {
+    match part(row, 0) {
+        "line" => take_line(page, sig, config, row),
+        kind => show_at(page, config, kind, part(row, 1)),
     }
 }
 
@@ -71,26 +104,16 @@ fn show_answer<T: Show>(page: &mut Page, answer: &Result<T, PFault>) {
 /// thread, and the value that its line `found` would bind, or `none`; `channel`, a thread, and the channel that it sends on, or why
 /// there is none; `entry`, a number, and the adversary's entry, or `none`.
 pub fn processes_row(page: &mut Page, desk: &mut Desk, row: &str) {
-    match (part(row, 0), &mut desk.config) {
-        ("process", _) => start(page, desk, part(row, 1)),
-        ("symbols", _) => {
+    match part(row, 0) {
+        "process" => start(page, desk, part(row, 1)),
+        "symbols" => {
             let sig = signature(page, part(row, 1));
             page.set(&mut desk.signature, sig);
             page.show(true);
         }
-        ("line", Some(config)) => take_line(page, &desk.signature, config, row),
-        ("stored", Some(config)) => {
-            let thread = number(page, part(row, 1));
-            page.show(config.stored(page.alloc, thread));
-        }
-        ("channel", Some(config)) => {
-            let thread = number(page, part(row, 1));
-            show_answer(page, &config.channel(page.alloc, thread));
-        }
-        ("entry", Some(config)) => {
-            let k = number(page, part(row, 1));
-            page.show(config.entry(k));
-        }
-        _ => page.fail(),
+        _ => match &mut desk.config {
+            Some(config) => go_on(page, &desk.signature, config, row),
+            None => page.fail(),
+        },
     }
 }

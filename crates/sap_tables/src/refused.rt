@@ -5,7 +5,7 @@ use crate::notation::{number, part, written};
 use crate::page::Page;
 use crate::tables::show_found;
 use std::alloc::Global;
-use std::str;
+use std::{mem, str};
 
 // The text of what is on the page.
 fn text(page: &Page) -> &str {
@@ -39,13 +39,8 @@ fn good_call(seen: &str) -> Option<(&str, &str, &str)> {
 /// that fails at one of these has status 4 and the text of a read fault, asks no further, and writes nothing to out.
 pub fn failing_row(page: &mut Page, row: &str) {
     let good = seen(page.alloc, row, 0, 0, 0);
-    let asked = match good_call(text(&good)) {
-        Some((asked, _, _)) => number(page, asked),
-        None => {
-            page.fail();
-            0
-        }
-    };
+    let (asked, _, _) = good_call(text(&good)).unwrap_or(("", "", ""));
+    let asked = number(page, asked);
     for k in 0..asked {
         let k = k.saturating_add(1);
         let found = seen(page.alloc, row, k, 0, 0);
@@ -91,17 +86,13 @@ fn is_cut(alloc: Global, row: &str, asked: &str, good: &[u8], others: u64) -> bo
 /// fails at one of its puts, and takes none, one or all of the bytes of that, has status 5, and out holds what it took up to there.
 pub fn cut_row(page: &mut Page, row: &str) {
     let good = seen(page.alloc, row, 0, 0, 0);
-    match good_call(text(&good)) {
-        Some((asked, puts, out)) => {
-            for k in 0..number(page, puts) {
-                if !is_cut(page.alloc, row, asked, out.as_bytes(), k) {
-                    page.fail();
-                }
-            }
-            page.numbered("", out.len() as u64);
+    let (asked, puts, out) = good_call(text(&good)).unwrap_or(("", "", ""));
+    for k in 0..number(page, puts) {
+        if !is_cut(page.alloc, row, asked, out.as_bytes(), k) {
+            page.fail();
         }
-        None => page.fail(),
     }
+    page.numbered("", out.len() as u64);
 }
 
 /// The bytes of a file, and how many of its proper prefixes `compile` refuses with status 1 and nothing on out, and how many it compiles.
@@ -119,12 +110,10 @@ pub fn prefixes_row(page: &mut Page, row: &str) {
             &bytes[..length],
             b"",
         );
-        if found.as_bytes().starts_with(b"1 err file refused: ") {
-            refused = refused.saturating_add(1);
-        }
-        if found.as_bytes().starts_with(b"0 out theory ") {
-            compiled = compiled.saturating_add(1);
-        }
+        let is_refused = found.as_bytes().starts_with(b"1 err file refused: ");
+        let is_compiled = found.as_bytes().starts_with(b"0 out theory ");
+        refused = refused.saturating_add(is_refused as u64);
+        compiled = compiled.saturating_add(is_compiled as u64);
     }
     page.numbered("", refused);
     page.numbered(", ", compiled);
@@ -138,10 +127,10 @@ fn last_found(page: &mut Page, desk: &mut Desk, table: &str, rows: &str) -> Page
         if table == "guards" && !line.as_bytes().is_empty() {
             line.word("|");
         } else {
-            line = Page::new(page.alloc);
+            drop(mem::replace(&mut line, Page::new(page.alloc)));
         }
         line.word(row);
-        found = Page::new(page.alloc);
+        drop(mem::replace(&mut found, Page::new(page.alloc)));
         show_found(&mut found, desk, table, text(&line));
         if !found.is_whole {
             page.fail();

@@ -3,7 +3,7 @@ ghost use Rattle.std.specs.Prelude.{◌<◌};
 
 use crate::calls::answered;
 use crate::json::{FROM_JSON, TO_JSON, show_inside};
-use crate::notation::{between, enclosed, part};
+use crate::notation::{enclosed, part};
 use crate::page::Page;
 
 // The commands that read a run of one kind alone.
@@ -13,10 +13,7 @@ const TO_PROCESS: &str = "to-process a.spthy b.run";
 
 // Whether a run is refused as a text, not for one of its steps.
 fn is_no_run(answer: &[u8]) -> bool {
-    match between(answer, "2 err run refused: ", "\n") {
-        Some(cause) => !cause.starts_with(b"step "),
-        None => false,
-    }
+    answer.starts_with(b"2 err run refused: ") && !answer.starts_with(b"2 err run refused: step ")
 }
 
 // Why the command takes no text of these bytes, which come in pieces of so many; or the run as JSON.

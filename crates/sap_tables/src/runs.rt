@@ -1,6 +1,6 @@
 //! Runs of rules, and their lines.
 use crate::desk::Desk;
-use crate::notation::{enclosed, list, part};
+use crate::notation::{enclosed, last_copy, list, part};
 use crate::page::Page;
 use crate::show::Show;
 use crate::theories::rules_row;
@@ -8,9 +8,21 @@ use sap_refusals::rule_line;
 use sap_rule::Theory;
 use sap_run_texts::read_rrun;
 use sap_runs::RStep;
-use sap_steps::RuleState;
-use sap_terms::{Copied, Mem, Signature};
+use sap_steps::{RFault, RuleState};
+use sap_terms::{Bindings, Mem, Signature};
 use std::alloc::Global;
+use std::mem;
+
+// Why a line is refused, in words.
+impl Show for RFault {
+    fn show_on(&self, page: &mut Page) {
+        page.text(
+            rule_line(page.alloc, 0, self),
+            "run refused: step 0: ",
+            "\n",
+        );
+    }
+}
 
 fn started(alloc: Global, theory: &Theory) -> Result<Option<Box<RuleState>>, Mem> {
     if !theory.can_run(alloc)? {
@@ -19,41 +31,49 @@ fn started(alloc: Global, theory: &Theory) -> Result<Option<Box<RuleState>>, Mem
     Ok(Some(Box::new(alloc, RuleState::start(alloc, theory)?)?))
 }
 
-// The copy of a line of a run; a rule's open variables stand for what these bindings say.
-fn line(page: &mut Page, sig: &Signature, text: &str, bound: &str) -> Option<Box<RStep>> {
-    let bytes = enclosed(page.alloc, "rule-run\n", text, "\n");
-    let read = read_rrun(page.alloc, bytes.as_bytes()).ok()?;
-    let step = read.copy(page.alloc).ok()?.into_vec().pop();
-    let mut step = page.boxed(step)?;
-    if let RStep::Rule(_, _, bindings) = &mut *step {
-        *bindings = list(page, sig, ';', bound);
+// Begins a run of the theory, if its rules can be run.
+fn start(page: &mut Page, theory: &Theory, run: &mut Option<Box<RuleState>>) {
+    let started = started(page.alloc, theory).ok();
+    page.set(run, started);
+    page.show(run.is_some());
+}
+
+// A rule's open variables stand for what these bindings say.
+fn bind(step: &mut RStep, bound: Bindings) {
+    match step {
+        RStep::Rule(_, _, bindings) => drop(mem::replace(bindings, bound)),
+        _ => drop(bound),
     }
-    Some(step)
+}
+
+// Takes the line with these bindings, and shows what it shows, or why it is refused.
+fn take_step(page: &mut Page, run: &mut RuleState, step: Option<Box<RStep>>, bound: Bindings) {
+    match step {
+        Some(mut step) => {
+            bind(&mut step, bound);
+            page.show(run.step(page.alloc, &step));
+            drop(step);
+        }
+        None => page.fail(),
+    }
 }
 
 fn take_line(page: &mut Page, sig: &Signature, run: &mut RuleState, row: &str) {
-    match &line(page, sig, part(row, 1), part(row, 2)) {
-        Some(step) => match run.step(page.alloc, step) {
-            Ok(facts) => facts.show_on(page),
-            Err(fault) => {
-                let line = rule_line(page.alloc, 0, &fault);
-                page.text(line, "run refused: step 0: ", "\n");
-            }
-        },
-        None => page.fail(),
-    }
+    let bytes = enclosed(page.alloc, "rule-run\n", part(row, 1), "\n");
+    let bound = list(page, sig, ';', part(row, 2));
+    let step = last_copy(page, read_rrun(page.alloc, bytes.as_bytes()));
+    take_step(page, run, step, bound);
 }
 
 /// Rows that make a theory; `start`, and whether its rules can be run; `line`, a line of the run, the bindings of its open variables,
 /// and the facts that it shows, or why it is refused.
 pub fn runs_row(page: &mut Page, desk: &mut Desk, row: &str) {
-    match (part(row, 0), &mut desk.run) {
-        ("start", _) => {
-            let started = started(page.alloc, &desk.theory).ok();
-            page.set(&mut desk.run, started);
-            page.show(desk.run.is_some());
-        }
-        ("line", Some(run)) => take_line(page, &desk.signature, run, row),
+    match part(row, 0) {
+        "start" => start(page, &desk.theory, &mut desk.run),
+        "line" => match &mut desk.run {
+            Some(run) => take_line(page, &desk.signature, run, row),
+            None => page.fail(),
+        },
         _ => rules_row(page, &mut desk.theory, row),
     }
 }

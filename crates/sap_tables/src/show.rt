@@ -3,7 +3,7 @@ use crate::page::Page;
 use sap_place::{Form, Place, semi_fact, state_fact};
 use sap_process::{Children, Process};
 use sap_rule::Rule;
-use sap_terms::{Binding, Fact, Items, Name, Sort, Term, TermList, Var};
+use sap_terms::{Binding, Fact, Items, Mem, Name, Sort, Term, TermList, Var};
 
 /// What has a text of its own.
 pub trait Show {
@@ -38,13 +38,20 @@ impl<T: Show> Show for Option<T> {
     }
 }
 
-// Without a value the page isn't whole.
-impl<T: Show, E> Show for Result<T, E> {
+// The value, or why there is none.
+impl<T: Show, E: Show> Show for Result<T, E> {
     fn show_on(&self, page: &mut Page) {
         match self {
             Ok(value) => value.show_on(page),
-            Err(_) => page.fail(),
+            Err(fault) => fault.show_on(page),
         }
+    }
+}
+
+// The page isn't whole.
+impl Show for Mem {
+    fn show_on(&self, page: &mut Page) {
+        page.fail();
     }
 }
 

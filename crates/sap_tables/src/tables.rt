@@ -73,15 +73,13 @@ fn show_found_above(page: &mut Page, desk: &mut Desk, table: &str, row: &str) {
     }
 }
 
-// Tells a row that differs, and what is found, with `^` in place of line feeds.
+// Tells a row that differs, and what is found.
 fn show_difference(out: &mut Page, table: &str, row: &str, found: &[u8]) {
     out.word(table);
     out.word(" differs: ");
     out.word(row);
     out.word("\n  found: ");
-    for byte in found {
-        out.byte(if *byte == b'\n' { b'^' } else { *byte });
-    }
+    out.bytes(found);
     out.word("\n");
 }
 

@@ -3,11 +3,10 @@ use crate::notation::{number, part, written};
 use crate::page::Page;
 use sap_read::ReadFault;
 use sap_refusals::file_line;
-use sap_text::{Kind, Token, token_bytes, tokens};
+use sap_text::{Kind, Lex, Token, token_bytes, tokens};
 
-// The letter of its kind, its span and its line, behind a word.
-fn show_token(page: &mut Page, word: &str, token: &Token) {
-    page.word(word);
+// The letter of its kind, its span and its line.
+fn show_token(page: &mut Page, token: &Token) {
     let letter = match token.kind {
         Kind::Ident => "i",
         Kind::Number => "n",
@@ -19,22 +18,35 @@ fn show_token(page: &mut Page, word: &str, token: &Token) {
     page.numbered("@", token.line);
 }
 
+// With blanks between them.
+fn show_tokens(page: &mut Page, found: &[Token]) {
+    let mut before = "";
+    for token in found {
+        page.word(before);
+        show_token(page, token);
+        before = " ";
+    }
+}
+
+// Why there are none, in words.
+fn show_fault(page: &mut Page, fault: Lex) {
+    page.text(
+        file_line(page.alloc, &ReadFault::Lex(fault)),
+        "file refused: ",
+        "\n",
+    );
+}
+
 /// The bytes, the longest name, and the tokens or why there are none: of each token the letter of its kind, its span and its line.
 pub fn tokens_row(page: &mut Page, row: &str) {
     let longest = number(page, part(row, 1));
     let bytes = written(page.alloc, part(row, 0));
     match tokens(page.alloc, bytes.as_bytes(), longest) {
         Ok(found) => {
-            let mut before = "";
-            for token in found.as_slice() {
-                show_token(page, before, token);
-                before = " ";
-            }
+            show_tokens(page, found.as_slice());
+            drop(found);
         }
-        Err(fault) => {
-            let line = file_line(page.alloc, &ReadFault::Lex(fault));
-            page.text(line, "file refused: ", "\n");
-        }
+        Err(fault) => show_fault(page, fault),
     }
 }
 
