@@ -17,7 +17,7 @@
 #   deep      one lemma of so many conjuncts, which are more levels than a formula may have
 #   nested    one lemma of so many facts below twenty quantifiers in one another that bind one name, and behind them one without a guard
 #
-# For each size it tells the instructions of both, by valgrind, their ratio, which is to be at most 1.75, of `deep` and `nested` 2.2, and
+# For each size it tells the instructions of both, by valgrind, their ratio, which is to be at most 2.3, and
 # what `why` takes to the size before, at most 2.2. Where there are more nodes than there may be, `compile` counts and `why` walks to the first place beyond, which takes
 # some 11 million more: this is most of what it takes of `nodes`, and lifts the ratio of the smallest file of `names` to 1.8. And of each
 # file of examples/ it tells the instructions of `compile`, and of `why` on it with a lemma that is in no grammar, which are to be fewer.

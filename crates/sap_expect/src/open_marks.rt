@@ -99,7 +99,7 @@ pub fn innermost_open(alloc: Global, bytes: &[u8], tokens: &[Token]) -> Result<O
 }
 
 /// A law: which word of small files is the innermost that is open, each kind of bracket and the quotation mark, or that none is: behind
-/// those that are closed, by whichever bracket; behind one that closes nothing; and behind a name in quotes and a `<`, which are none. A
+/// those that are closed, by whichever bracket; behind one that closes nothing; and behind a name in quotes, `<` and `>`, which are none. A
 /// quotation mark closes no bracket.
 pub fn open_marks_by_hand()
     ensures brackets { IsOpenAt nested 8 × IsOpenAt one_closed 6 × NoneIsOpen both_closed }
@@ -111,5 +111,6 @@ pub fn open_marks_by_hand()
         × NoneIsOpenInFormula (mark (codes "(") ∷ mark (codes ")") ∷ mark (codes "\"") ∷ []) }
     ensures whichever { NoneIsOpen (mark (codes "(") ∷ mark (codes "]") ∷ []) }
     ensures closes_nothing { NoneIsOpen (mark (codes ")") ∷ []) × IsOpenAt (mark (codes ")") ∷ mark (codes "(") ∷ []) 6 }
-    ensures no_marks { NoneIsOpen [] × NoneIsOpen (quoted (codes "(") ∷ name (codes "[") ∷ mark (codes "<") ∷ []) }
+    ensures no_marks { NoneIsOpen [] × NoneIsOpen (quoted (codes "(") ∷ name (codes "[") ∷ mark (codes "<") ∷ [])
+        × IsOpenAt (mark (codes "(") ∷ mark (codes "<") ∷ mark (codes ">") ∷ []) 5 }
 {}

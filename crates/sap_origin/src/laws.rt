@@ -10,8 +10,9 @@ ghost use Rattle.sap_macro.specs.declared.definition.Definition.{Definition};
 ghost use Rattle.sap_origin.specs.Definitions.{LocatedDefinition, located_definitions, plain_definition};
 ghost use Rattle.sap_origin.specs.Examples.{ComesTo, both, out_in_p, p_use, q_use, small};
 ghost use Rattle.sap_origin.specs.Meant.{Means};
-ghost use Rattle.sap_origin.specs.Origins.{IsOrigin};
+ghost use Rattle.sap_origin.specs.Origins.{IsOrigin, words_left};
 ghost use Rattle.sap_origin.specs.Reached.{IsForm, Reaches, Standing, process_at};
+ghost use Rattle.sap_origin.specs.declared.origin.Origin.{Origin};
 
 use sap_macro::{located_is_written, plain_names_stand_for_bodies};
 
@@ -63,6 +64,7 @@ pub fn places_by_hand()
         × (ComesTo (1 ∷ []) k [] → ⊥) }
     ensures no_use_beside { (k : ℕ) → (ComesTo (2 ∷ []) k (7 ∷ []) → ⊥) × (ComesTo [] k (7 ∷ []) → ⊥) }
     ensures origin { IsOrigin both small 1 (1 ∷ []) (out_in_p (q_use ∷ p_use ∷ [])) }
+    ensures one_word { (o : Origin) → IsOrigin both small 1 (1 ∷ []) o → words_left o.word ≡ 20 }
     ensures no_origin { (IsOrigin both small 1 (1 ∷ []) (out_in_p (p_use ∷ q_use ∷ [])) → ⊥)
         × (IsOrigin both small 1 (1 ∷ []) (out_in_p (p_use ∷ [])) → ⊥)
         × (IsOrigin both small 1 (1 ∷ []) (out_in_p []) → ⊥) }

@@ -43,6 +43,7 @@ ghost use Rattle.sap_read.specs.OwnNames.{IsNamedApart};
 ghost use Rattle.sap_terms.specs.declared.limits.TheConstants.{MOST_FILE_NAME_BYTES};
 ghost use Rattle.sap_read.specs.declared.limits.TheConstants.{MOST_NEW_NAME_BYTES};
 ghost use Rattle.sap_process.specs.Ready.{IsReady};
+ghost use Rattle.sap_read.specs.UndefinedNames.{HasBodies};
 ghost use Rattle.sap_read.specs.WrittenFiles.{IsEarly};
 ghost use Rattle.sap_read.specs.declared.fault.ReadFault.{ReadFault};
 ghost use Rattle.sap_read.specs.declared.fault.ReadFault.TheVariants.{Mem as OutOfMemory};
@@ -296,6 +297,18 @@ pub fn located_items()
         (s : AreItems g cut js) → located_bodies r ≡ located_bodies s }
 {
     located_processes();
+}
+
+/// A law: the items that tokens spell say of processes what is said there, and these say nothing else.
+pub fn bodies_are_one()
+    ensures are { (z : List ℕ) (ts : List Token) (x : List ℕ) (cut : List (List Placed)) (is : List Standing)
+        → IsParted z ts x cut → (r : AreItems (signature_of is) cut is) → HasBodies z ts (located_bodies r) }
+    ensures one { (z : List ℕ) (ts : List Token) (bs cs : List LocatedBody)
+        → HasBodies z ts bs → HasBodies z ts cs → bs ≡ cs }
+{
+    one_parting();
+    one_list_of_items();
+    located_items();
 }
 
 /// A law: what is said of processes by the items of a file is spelled by its words: a process by the last ones of its item, so that the

@@ -25,12 +25,12 @@ pub use by_hand::{
 pub use fault::ReadFault;
 pub use file::{File, read_file, read_file_boxed};
 pub use laws::{
-    bodies_are_spelled, definitions_are_in_order, file_processes_are_one, file_unless_refused,
-    files_are_named_apart, files_are_printable, files_are_ready, files_are_runnable,
-    files_show_as_they_are_written, files_without_parameters_are_as_written, grammar_is_one,
-    identifiers_hold_variables, item_ends, labels_show_nothing, located_items, no_early_cause,
-    one_file, one_list_of_items, one_parting, plain_files_need_no_instances, some_file,
-    used_definitions_are_closed,
+    bodies_are_one, bodies_are_spelled, definitions_are_in_order, file_processes_are_one,
+    file_unless_refused, files_are_named_apart, files_are_printable, files_are_ready,
+    files_are_runnable, files_show_as_they_are_written, files_without_parameters_are_as_written,
+    grammar_is_one, identifiers_hold_variables, item_ends, labels_show_nothing, located_items,
+    no_early_cause, one_file, one_list_of_items, one_parting, plain_files_need_no_instances,
+    some_file, used_definitions_are_closed,
 };
 pub use limits::MOST_NEW_NAME_BYTES;
 pub use sap_draft::{FILE_LIMITS, one_process, processes_by_hand};

@@ -4,7 +4,7 @@ use Rattle.std.specs.Prelude.{IfOk}
 use Rattle.sap_read.specs.Files.{FileContent, IsRead}
 use Rattle.sap_read.specs.declared.fault.ReadFault.{ReadFault}
 use Rattle.sap_refusals.specs.Refusals.{fault_text, refused_line}
-use Rattle.sap_where.specs.Explained.{IsExplanation, IsSettled}
+use Rattle.sap_where.specs.Explained.{IsExplanation}
 use Rattle.sap_replay.specs.AcceptedFile.{most_bytes, IsRefusedWith, too_long, unread}
 use Rattle.sap_tool.specs.WhyTexts.{IsWhyText, of_file, of_length, of_fault, IsToldWhy, told_accepted, told_refused, accepted_text, long_text}
 use Rattle.sap_tool.proofs.Refused.{OneReading, one_cause, not_refused, same_fault}
@@ -34,19 +34,19 @@ module _ (one : OneReading) (bytes : List ℕ) where
   why_means _ (of_length long) = refused_says _ _ (too_long long)
   why_means _ (of_fault {e = e} {t = t} short read explained) = refused_says (fault_text e) t (unread short read)
 
-  -- where the place of the cause is defined, or there is none, there is one such text
-  pub same_why_text : ((z : List ℕ) (e : ReadFault) (t u : List ℕ) → IsSettled z e → IsExplanation z e t → IsExplanation z e u → t ≡ u) → ((e : ReadFault) → IsRead bytes (Err e) → IsSettled bytes e)
+  -- there is one such text
+  pub same_why_text : ((z : List ℕ) (e : ReadFault) (t u : List ℕ) → IsExplanation z e t → IsExplanation z e u → t ≡ u)
       → (text other : List ℕ) → IsWhyText bytes text → IsWhyText bytes other → text ≡ other
-  same_why_text only settled _ _ (of_file f) (of_file g) = refl
-  same_why_text only settled _ _ (of_file {told = told} f) (of_length long) = absurd (not_refused one bytes _ told (too_long long) f)
-  same_why_text only settled _ _ (of_file {told = told} f) (of_fault short read x) = absurd (not_refused one bytes _ told (unread short read) f)
-  same_why_text only settled _ _ (of_length long) (of_file {told = told} f) = absurd (not_refused one bytes _ told (too_long long) f)
-  same_why_text only settled _ _ (of_length long) (of_length longer) = refl
-  same_why_text only settled _ _ (of_length long) (of_fault short read x) = absurd (omega (arith, long, short))
-  same_why_text only settled _ _ (of_fault short read x) (of_file {told = told} f) = absurd (not_refused one bytes _ told (unread short read) f)
-  same_why_text only settled _ _ (of_fault short read x) (of_length long) = absurd (omega (arith, long, short))
-  same_why_text only settled _ _ (of_fault {e = e} {t = t} short read x) (of_fault {e = f} {t = u} short_too read_too y) =
+  same_why_text only _ _ (of_file f) (of_file g) = refl
+  same_why_text only _ _ (of_file {told = told} f) (of_length long) = absurd (not_refused one bytes _ told (too_long long) f)
+  same_why_text only _ _ (of_file {told = told} f) (of_fault short read x) = absurd (not_refused one bytes _ told (unread short read) f)
+  same_why_text only _ _ (of_length long) (of_file {told = told} f) = absurd (not_refused one bytes _ told (too_long long) f)
+  same_why_text only _ _ (of_length long) (of_length longer) = refl
+  same_why_text only _ _ (of_length long) (of_fault short read x) = absurd (omega (arith, long, short))
+  same_why_text only _ _ (of_fault short read x) (of_file {told = told} f) = absurd (not_refused one bytes _ told (unread short read) f)
+  same_why_text only _ _ (of_fault short read x) (of_length long) = absurd (omega (arith, long, short))
+  same_why_text only _ _ (of_fault {e = e} {t = t} short read x) (of_fault {e = f} {t = u} short_too read_too y) =
       let same : f ≡ e = same_fault one bytes f e read_too read in
-      let rest : t ≡ u = only bytes e t u (settled e read) x (subst (λ (g : ReadFault). IsExplanation bytes g u) same y) in
+      let rest : t ≡ u = only bytes e t u x (subst (λ (g : ReadFault). IsExplanation bytes g u) same y) in
       let line : refused_line (fault_text e) ≡ refused_line (fault_text f) = ap (λ (g : ReadFault). refused_line (fault_text g)) (sym same) in
       ap (λ (l : List ℕ). l ++ t) line ∙ ap (λ (r : List ℕ). refused_line (fault_text f) ++ r) rest

@@ -1,20 +1,16 @@
 //! Laws of what is told of files, and of the command that tells it.
 
-ghost use Rattle.std.specs.Prelude.{◌≡◌, ℕ, codes, List, [], ◌∷◌, Err};
-ghost use Rattle.sap_read.specs.Files.{IsRead};
-ghost use Rattle.sap_read.specs.declared.fault.ReadFault.{ReadFault};
+ghost use Rattle.std.specs.Prelude.{◌≡◌, ℕ, codes, List, [], ◌∷◌};
 ghost use Rattle.sap_tool.specs.Commands.{Allows, Input, Refuses, RefusesRun, TakesRun, and_run, explain, run_alone, spelled};
 ghost use Rattle.sap_tool.specs.WhyTexts.{IsWhyText};
-ghost use Rattle.sap_where.specs.Explained.{IsSettled};
 
 use sap_read::one_file;
 use sap_where::one_explanation;
 
-/// A law: of some bytes one text is told, unless they are refused for a cause whose place isn't defined by the words of the file (`IsSettled`); then
-/// one line tells that cause.
+/// A law: of some bytes one text is told.
 pub fn one_why_text()
     ensures { (bytes text other : List ℕ) → IsWhyText bytes text → IsWhyText bytes other
-        → ((e : ReadFault) → IsRead bytes (Err e) → IsSettled bytes e) → text ≡ other }
+        → text ≡ other }
 {
     one_file();
     one_explanation();

@@ -138,10 +138,10 @@ module _ (plain : PlainBodies) (ordered : Ordered) (used : Used) (meant : AreMea
 
 -- ---- places by what is handed down
 
-abbrev body_of : {S : Type 0} → Place S → Proc
+abbrev pub body_of : {S : Type 0} → Place S → Proc
 body_of a = a.body
 
-body_below : {S : Type 0} (path : List ℕ) (s : S) (o : Option Proc) → option_map body_of (option_map (place path s) o) ≡ o
+pub body_below : {S : Type 0} (path : List ℕ) (s : S) (o : Option Proc) → option_map body_of (option_map (place path s) o) ≡ o
 body_below path s None = refl
 body_below path s (Some p) = refl
 

@@ -19,7 +19,7 @@ use Rattle.sap_grammar.specs.Items.{items_end, items_more}
 use Rattle.sap_grammar.proofs.ReadingLaws.Limits.{fits}
 use Rattle.sap_grammar.proofs.ReadingLaws.Tokens.{length-words, words_placed}
 use Rattle.sap_statements.specs.Statements.{is_lemma, is_restriction}
-use Rattle.sap_spot.specs.Found.{begins_item}
+use Rattle.sap_where.specs.Beginnings.{begins_item}
 use Rattle.sap_read.specs.Files.{IsParted}
 use Rattle.sap_read.specs.Item.{Item, Standing, declarations, declared_by}
 use Rattle.sap_read.specs.ItemGrammar.{AreItems, IsItem, item_builtins, item_definition, item_functions, item_process, item_statement}

@@ -26,7 +26,7 @@ use Rattle.sap_read.specs.declared.fault.ReadFault.{ReadFault}
 use Rattle.sap_read.specs.declared.fault.ReadFault.TheVariants.{Mem, Lex as LexFault, Header, Syntax, NoProcess, TwoProcesses, UnknownProcess, DuplicateName, FunctionClash, Parameters, Arguments, TooMany, TooDeep, Large, Flawed, Ill, Lock, Formula}
 use Rattle.sap_where.specs.declared.told.Told.{Told}
 use Rattle.sap_where.specs.ReadPlaces.{IsReadCause}
-use Rattle.sap_where.specs.Told.{HasPlace, IsTold, at_its_place, bytes_have, by_words, declarations_have, header_has, item_has, parallels_have, parameters_have, reading_has, unlocks_have}
+use Rattle.sap_where.specs.Told.{HasPlace, IsPlaceOf, bytes_have, by_words, declarations_have, header_has, item_has, parallels_have, parameters_have, reading_has, unlocks_have}
 use Rattle.sap_where.specs.Parameters.{IsParameter}
 use Rattle.sap_where.specs.Where.{HoldsOnce, StartsFile, at_byte, offset_of, one_byte}
 use Rattle.sap_where.specs.FileDeclarations.{declared_before}
@@ -268,9 +268,9 @@ ByteTold z f o = MatchOption o ((at : ℕ) → offset_of f ≡ Some at → lengt
     (λ t. ((at : ℕ) × (offset_of f ≡ Some at) × (at < length z) × (t.word ≡ one_byte at)) × (t.uses ≡ []))
 
 -- the byte of a fault is where the fault stands
-pub byte_place : (z : List ℕ) (f : Lex) (o : Option Told) → ByteTold z f o → IfSome o (λ t. IsTold z (LexFault f) t)
+pub byte_place : (z : List ℕ) (f : Lex) (o : Option Told) → ByteTold z f o → IfSome o (λ t. IsPlaceOf z (LexFault f) t)
 byte_place z f None m = tt
-byte_place z f (Some t) m = at_its_place (by_words (at_byte m.0.1 m.0.2 m.0.3) m.1)
+byte_place z f (Some t) m = (by_words (at_byte m.0.1 m.0.2 m.0.3) m.1)
 
 -- and there is one where the bytes are refused for it
 pub byte_told : (z : List ℕ) (f : Lex) (o : Option Told) → ByteTold z f o → IsRead z (Err (LexFault f)) → o ≡ None → ⊥

@@ -68,7 +68,7 @@ module _ (one : OneFaultLaw) (never : NoFaultLaw) where
   one_faulty_word (faulty_later n a) (faulty_here b i) = absurd (never _ _ _ _ _ b n)
   one_faulty_word (faulty_later n a) (faulty_later m b) = one_faulty_word a b
 
-abbrev IsNoStatement : Item → Type 0
+abbrev pub IsNoStatement : Item → Type 0
 IsNoStatement (statement s) = ⊥
 IsNoStatement _ = ⊤
 
@@ -82,14 +82,14 @@ module _ (same : SameWords) where
       subst (λ (v : Statement). (t : IsStatement h l v a) → statement_words r ≡ statement_words t) e (λ t. same g h m l s a r t) in
       subst (λ (c : List Word). (t : IsStatement h l u c) → statement_words r ≡ statement_words t) f here t
 
-  none_stated : {h : Sig} {w : Item} {b : List Word} (t : IsItem h w b) (n : ℕ) → IsNoStatement w → stated_at t n ≡ []
+  pub none_stated : {h : Sig} {w : Item} {b : List Word} (t : IsItem h w b) (n : ℕ) → IsNoStatement w → stated_at t n ≡ []
   none_stated (item_builtins t) n h = refl
   none_stated (item_functions t) n h = refl
   none_stated (item_definition q t) n h = refl
   none_stated (item_process t) n h = refl
   none_stated (item_statement t) n h = absurd h
 
-  one_stated : {g h : Sig} {m : Limits} {s : Statement} {w : Item} {a b : List Word} (r : IsStatement g m s a) (t : IsItem h w b) (n : ℕ) → statement s ≡ w → a ≡ b
+  pub one_stated : {g h : Sig} {m : Limits} {s : Statement} {w : Item} {a b : List Word} (r : IsStatement g m s a) (t : IsItem h w b) (n : ℕ) → statement s ≡ w → a ≡ b
       → record { statement = s; words = statement_words r; behind = n } ∷ [] ≡ stated_at t n
   one_stated r (item_builtins t) n e f = absurd (cc (e))
   one_stated r (item_functions t) n e f = absurd (cc (e))
@@ -121,7 +121,7 @@ module _ (same : SameWords) where
       ∙ ap (λ (n : ℕ). stated_at t n ++ located_statements rs) (ap word_count later)
       ∙ ap (λ (ls : List LocatedStatement). stated_at t (word_count js) ++ ls) (same_located rs ts later more)
 
-same_told : {s t : Told} → s.word ≡ t.word → s.uses ≡ t.uses → s ≡ t
+pub same_told : {s t : Told} → s.word ≡ t.word → s.uses ≡ t.uses → s ≡ t
 same_told {s = s} {t = t} w u =
     ap (λ (v : Stretch). record { word = v; uses = s.uses }) w ∙ ap (λ (us : List Stretch). record { word = t.word; uses = us }) u
 

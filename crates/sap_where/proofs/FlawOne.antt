@@ -92,7 +92,7 @@ abbrev OfHead : Sig → List Site → Site → Flaw → Spoken → Type 0
 OfHead g before s w f = (r : Option ℕ) × IsTold g before s w r × (Some f ≡ of_itself s.path r)
 
 module _ (node : OneNode) (g : Sig) (before : List Site) (s : Site) where
-  one_told : (w : Flaw) (j k : ℕ) → IsTold g before s w (Some j) → IsTold g before s w (Some k) → j ≡ k
+  pub one_told : (w : Flaw) (j k : ℕ) → IsTold g before s w (Some j) → IsTold g before s w (Some k) → j ≡ k
   one_told w j k a b = a.2 ∙ ap (λ (n : ℕ). min n (2 ^ 64 - 1)) (node g before s w a.0 b.0 a.1 b.1) ∙ sym b.2
 
   one_of_head : (w : Flaw) (f h : Spoken) → OfHead g before s w f → OfHead g before s w h → f ≡ h
@@ -121,7 +121,7 @@ module _ (node : OneNode) (g : Sig) (before : List Site) (s : Site) where
 
 -- ---- at one place of the list it stands
 
-not_before_itself : (path : List ℕ) → IsBefore path path → ⊥
+pub not_before_itself : (path : List ℕ) → IsBefore path path → ⊥
 not_before_itself [] b = elim b [ ]
 not_before_itself (e ∷ path) (inl low) = omega (arith, low)
 not_before_itself (e ∷ path) (inr b) = not_before_itself path b.1

@@ -66,7 +66,7 @@ some_same : {A : Type 0} {a b : A} → ◌≡◌ {A = Option A} (Some a) (Some b
 some_same e = cc (e)
 
 -- what stands at a number within
-got : {A : Type 0} (xs : List A) (k : ℕ) → k < length xs → (x : A) × (slice_get xs k ≡ Some x)
+pub got : {A : Type 0} (xs : List A) (k : ℕ) → k < length xs → (x : A) × (slice_get xs k ≡ Some x)
 got [] k low = absurd (omega (arith, low))
 got (x ∷ xs) zero low = (x, refl)
 got (x ∷ xs) (suc k) low = got xs k (omega (arith, low))
@@ -74,7 +74,7 @@ got (x ∷ xs) (suc k) low = got xs k (omega (arith, low))
 -- ---- a written node has its word
 
 -- one of what the items say is this, with so many words behind
-abbrev HasBody : List LocatedBody → Located → ℕ → Type 0
+abbrev pub HasBody : List LocatedBody → Located → ℕ → Type 0
 HasBody bs p behind = (b : LocatedBody) × Contains bs b × (b.content ≡ p) × (b.behind ≡ behind)
 
 more_bodies : (b : LocatedBody) (bs : List LocatedBody) (p : Located) (behind : ℕ) → HasBody bs p behind → HasBody (b ∷ bs) p behind
@@ -105,7 +105,7 @@ defined_or : (b : LocatedBody) (bs : List LocatedBody) (d : LocatedDefinition) �
 defined_or b bs d rest (inl c) = one_defined b.label b bs d c
 defined_or b bs d rest (inr c) = more_bodies b bs d.body d.behind (rest c)
 
-defined_body : (bs : List LocatedBody) (d : LocatedDefinition) → Contains (definitions_at bs) d → HasBody bs d.body d.behind
+pub defined_body : (bs : List LocatedBody) (d : LocatedDefinition) → Contains (definitions_at bs) d → HasBody bs d.body d.behind
 defined_body [] d c = let low = c.1 in absurd (omega (arith, low))
 defined_body (b ∷ bs) d c = defined_or b bs d (defined_body bs d) (Contains-append_cases (defined_at b.label b) (definitions_at bs) d c)
 
@@ -117,7 +117,7 @@ abbrev pub SomeHead : Type 0
 SomeHead = (g : Sig) (m : Limits) (p : Written) (n : ℕ) (a b : List Word) (r : IsPar g m p n a b) (q : Located) → IsPlaceIn q (par_located r) → HasHead g a q
 
 -- its head begins at a word of its item, and its nodes have a number each
-abbrev HasNumbers : Sig → List Word → Located → ℕ → Type 0
+abbrev pub HasNumbers : Sig → List Word → Located → ℕ → Type 0
 HasNumbers g ws q behind = (ns : List ℕ) × HeadWords g q (item_end ws (number_of q) behind) ns × (length ns ≡ length (written_nodes q))
 
 module _ (spelled : AreSpelled) (heads : SomeHead) (g : Sig) (z : List ℕ) (ts : List Token) (x : List ℕ) (cut : List (List Placed)) (is : List Standing) (parted : IsParted z ts x cut)
@@ -128,7 +128,7 @@ module _ (spelled : AreSpelled) (heads : SomeHead) (g : Sig) (z : List ℕ) (ts 
       let h = heads g FILE_LIMITS s.written s.levels s.words [] s.spelled q (subst (λ (p : Located). IsPlaceIn q p) (sym s.places) i) in
       (h.numbers, subst (λ (a : List Word). HeadWords g q a h.numbers) (sym (s.stand (number_of q) h.within)) h.words, h.each)
 
-  numbers_in : (p : Located) (behind : ℕ) (q : Located) → HasBody (located_bodies items) p behind → IsPlaceIn q p → HasNumbers g (words_of z ts) q behind
+  pub numbers_in : (p : Located) (behind : ℕ) (q : Located) → HasBody (located_bodies items) p behind → IsPlaceIn q p → HasNumbers g (words_of z ts) q behind
   numbers_in p behind q h i =
       subst (λ (n : ℕ). HasNumbers g (words_of z ts) q n) h.3 (body_numbers h.0 h.1 q (subst (λ (r : Located). IsPlaceIn q r) (sym h.2) i))
 

@@ -27,7 +27,7 @@ use Rattle.sap_where.specs.declared.told.Told.{Told}
 use Rattle.sap_where.specs.code.Walked.{IsOriginTold, LeadsNowhere, LeadsTo}
 use Rattle.sap_where.specs.Placed.{IsAtPath, IsPlaced, path_of, stretch_before}
 use Rattle.sap_where.specs.ReadPlaces.{IsReadPlace}
-use Rattle.sap_where.specs.Told.{IsPlaceOf, IsTold, at_its_place, by_path, by_reading, by_words}
+use Rattle.sap_where.specs.Told.{IsPlaceOf, by_path, by_reading, by_words}
 use Rattle.sap_where.specs.Where.{IsWhere}
 use Rattle.sap_where.proofs.Along.{SameDefinitions, SameMain, SameTokens, comes_too}
 use Rattle.sap_where.proofs.OnePlace.{placed_without_path}
@@ -71,7 +71,7 @@ module _ {z : List ℕ} {ts : List Token} {w : WrittenFile} (only : (us : List T
   abbrev pub main_is : LocatedMain
   main_is = record { process = located w.processes.main.value; behind = w.processes.behind_main }
 
-  pub as_placed : IsPlaced z is.tokens (located_definitions w.processes.definitions w.processes.behind) main_is
+  unfoldable pub as_placed : IsPlaced z is.tokens (located_definitions w.processes.definitions w.processes.behind) main_is
   as_placed = record {
     name = w.name;
     cut = is.cut;
@@ -145,9 +145,9 @@ without_path z e n unread none t (by_path h a) = no_path_is n h
 without_path z e n unread none t (by_reading r) = unread t r
 
 module _ (z : List ℕ) (e : ReadFault) (path : List ℕ) (is : path_of e ≡ Some path) where
-  pub path_is_told : (r : Result (Option Told) Mem) → IfOk r (λ o. IfSome o (λ t. IsAtPath z path t)) → IfOk r (λ o. IfSome o (λ t. IsTold z e t))
+  pub path_is_told : (r : Result (Option Told) Mem) → IfOk r (λ o. IfSome o (λ t. IsAtPath z path t)) → IfOk r (λ o. IfSome o (λ t. IsPlaceOf z e t))
   path_is_told (Ok None) h = tt
-  path_is_told (Ok (Some t)) h = at_its_place (by_path is h)
+  path_is_told (Ok (Some t)) h = (by_path is h)
   path_is_told (Err m) h = tt
 
   none_at : ((t : Told) → IsAtPath z path t → ⊥) → (t : Told) → IsPlaceOf z e t → ⊥

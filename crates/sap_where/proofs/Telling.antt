@@ -1,20 +1,15 @@
 -- What is told of a place and of its use; one text is told of a cause whose place is defined.
 use Rattle.std.proofs.Common.{◌≡◌, ◌<◌, ℕ, zero, suc, ◌+◌, ◌-◌, List, [], ◌∷◌, ◌++◌, length, take, refl, sym, ap, subst, ◌∙◌, append_assoc, arith}
 use Rattle.std.proofs.lemmas.List.{append-nil, take_all, take_more}
-use Rattle.std.specs.Prelude.{Bool, true, false, codes, decimal, OnOk, Result, Ok, Err, slice_index_or}
-use Rattle.std.specs.Prelude.{Option}
-use Rattle.sap_grammar.specs.Words.{Word}
+use Rattle.std.specs.Prelude.{codes, decimal, OnOk, Result, Ok, Err, slice_index_or}
 use Rattle.sap_read.specs.declared.fault.ReadFault.{ReadFault}
-use Rattle.sap_read.specs.declared.fault.ReadFault.TheVariants.{Mem, Lex as LexFault, Header, Syntax, NoProcess, TwoProcesses, UnknownProcess, DuplicateName, FunctionClash, Parameters, Arguments, TooMany, TooDeep, Large, Flawed, Ill, Lock, Formula}
-use Rattle.sap_spot.specs.Found.{speaks}
 use Rattle.sap_where.specs.declared.place.Position.{Position}
 use Rattle.sap_where.specs.declared.place.Stretch.{Stretch}
 use Rattle.sap_where.specs.declared.told.Told.{Told}
 use Rattle.sap_where.specs.Advice.{advice}
-use Rattle.sap_where.specs.Explained.{bytes_in, IsUseText, AreUseTexts, no_use, a_use, AreUsesTold, more_text, IsPlaceTold, somewhere, nowhere, IsExplanation, IsSettled, wanting, bytes, header, syntax, no_process, second_process, taken_name, parameter_twice, declared_otherwise, lock, read}
+use Rattle.sap_where.specs.Explained.{bytes_in, IsUseText, AreUseTexts, no_use, a_use, AreUsesTold, more_text, IsPlaceTold, somewhere, nowhere, IsExplanation}
 use Rattle.sap_where.specs.Positions.{IsPosition, IsPlaceText}
-use Rattle.sap_where.specs.ReadPlaces.{IsReadCause}
-use Rattle.sap_where.specs.Told.{IsPlaceOf, IsTold, at_its_place, at_a_word}
+use Rattle.sap_where.specs.Told.{IsPlaceOf}
 
 -- what is told of a use
 pub use_is : {A E : Type 0} (z old mid new : List ℕ) (u : Stretch) (p : Position) (r : Result A E) → IsPosition z u.from p → mid ≡ old ++ (codes "in " ++ bytes_in z u)
@@ -63,7 +58,7 @@ uses_are z old mid new us (Ok v) h more =
 uses_are z old mid new us (Err m) h more = tt
 
 -- what is told of a place and its uses, and of none
-pub told_is : {A E : Type 0} (z old mid new : List ℕ) (e : ReadFault) (t : Told) (r : Result A E) → IsTold z e t → (x : List ℕ) × (mid ≡ old ++ x) × IsPlaceText z t.word x
+pub told_is : {A E : Type 0} (z old mid new : List ℕ) (e : ReadFault) (t : Told) (r : Result A E) → IsPlaceOf z e t → (x : List ℕ) × (mid ≡ old ++ x) × IsPlaceText z t.word x
     → OnOk r ((y : List ℕ) × (new ≡ mid ++ y) × AreUsesTold z t.uses y) → OnOk r ((y : List ℕ) × (new ≡ old ++ y) × IsPlaceTold z e y)
 told_is z old mid new e t (Ok v) told x y =
     (x.0 ++ y.0, y.1 ∙ ap (λ (m : List ℕ). m ++ y.0) x.1 ∙ append_assoc old x.0 y.0, somewhere told x.2 y.2)
@@ -75,45 +70,6 @@ none_told_is z old e none = ([], sym (append-nil old), nowhere none)
 -- an offset has one line and one column
 abbrev pub OnePosition : Type 0
 OnePosition = (z : List ℕ) (at : ℕ) (p q : Position) → IsPosition z at p → IsPosition z at q → p ≡ q
-
-never_true : ◌≡◌ {A = Bool} false true → ⊥
-never_true e = cc (e)
-
--- of what is read of the file no word speaks
-unspoken : (e : ReadFault) (here item : List Word) (used : Option (List Word)) → IsReadCause e → speaks e here item used ≡ false
-unspoken Mem here item used h = absurd h
-unspoken (LexFault f) here item used h = absurd h
-unspoken Header here item used h = absurd h
-unspoken (Syntax line) here item used h = absurd h
-unspoken NoProcess here item used h = absurd h
-unspoken (TwoProcesses line) here item used h = absurd h
-unspoken (UnknownProcess x) here item used h = refl
-unspoken (DuplicateName x) here item used h = absurd h
-unspoken (FunctionClash x) here item used h = absurd h
-unspoken (Parameters x) here item used h = absurd h
-unspoken (Arguments x) here item used h = refl
-unspoken TooMany here item used h = refl
-unspoken TooDeep here item used h = refl
-unspoken (Large x) here item used h = refl
-unspoken (Flawed x w path) here item used h = absurd h
-unspoken (Ill w path) here item used h = absurd h
-unspoken (Lock f) here item used h = absurd h
-unspoken (Formula x f) here item used h = refl
-
--- such a cause is told where it stands
-settled_place : (z : List ℕ) (e : ReadFault) (t : Told) → IsSettled z e → IsTold z e t → IsPlaceOf z e t
-settled_place z e t s (at_its_place at) = at
-settled_place z _ t wanting (at_a_word ts word is said) = absurd (never_true word.speaks_of)
-settled_place z _ t (bytes f) (at_a_word ts word is said) = absurd (never_true word.speaks_of)
-settled_place z _ t header (at_a_word ts word is said) = absurd (never_true word.speaks_of)
-settled_place z _ t (syntax line) (at_a_word ts word is said) = absurd (never_true word.speaks_of)
-settled_place z _ t no_process (at_a_word ts word is said) = absurd (never_true word.speaks_of)
-settled_place z _ t (second_process line) (at_a_word ts word is said) = absurd (never_true word.speaks_of)
-settled_place z _ t (taken_name name) (at_a_word ts word is said) = absurd (never_true word.speaks_of)
-settled_place z _ t (parameter_twice name) (at_a_word ts word is said) = absurd (never_true word.speaks_of)
-settled_place z _ t (declared_otherwise name) (at_a_word ts word is said) = absurd (never_true word.speaks_of)
-settled_place z _ t (lock f) (at_a_word ts word is said) = absurd (never_true word.speaks_of)
-settled_place z e t (read is) (at_a_word ts word at said) = absurd (never_true (sym (unspoken e _ _ _ is) ∙ word.speaks_of))
 
 -- of uses one text is told
 pub one_use_text : OnePosition → (z : List ℕ) (u : Stretch) (t x : List ℕ) → IsUseText z u t → IsUseText z u x → t ≡ x
@@ -139,17 +95,15 @@ OnePlace = (z : List ℕ) (e : ReadFault) (s t : Told) → IsPlaceOf z e s → I
 abbrev pub OneText : Type 0
 OneText = (z : List ℕ) (s : Stretch) (t u : List ℕ) → IsPlaceText z s t → IsPlaceText z s u → t ≡ u
 
-module _ (one : OnePlace) (one_position : OnePosition) (one_text : OneText) (z : List ℕ) (e : ReadFault) (settled : IsSettled z e) where
+module _ (one : OnePlace) (one_position : OnePosition) (one_text : OneText) (z : List ℕ) (e : ReadFault) where
   same_told : (x y : List ℕ) → IsPlaceTold z e x → IsPlaceTold z e y → x ≡ y
   same_told _ _ (somewhere {t = t} {place = a} {user = b} told text said) (somewhere {t = u} {place = c} {user = d} other text' said') =
-      let at = settled_place z e t settled told in
-      let too = settled_place z e u settled other in
-      let same : t ≡ u = one z e t u at too in
+      let same : t ≡ u = one z e t u told other in
       let texts : a ≡ c = one_text z u.word a c (subst (λ (v : Told). IsPlaceText z v.word a) same text) text' in
       let users : b ≡ d = one_uses_text one_position z t.uses u.uses b d (ap (λ (v : Told). v.uses) same) said said' in
       λ i. texts i ++ users i
-  same_told _ _ (somewhere {t = t} told text said) (nowhere none_at) = absurd (none_at t (settled_place z e t settled told))
-  same_told _ _ (nowhere none_at) (somewhere {t = t} told text said) = absurd (none_at t (settled_place z e t settled told))
+  same_told _ _ (somewhere {t = t} told text said) (nowhere none_at) = absurd (none_at t told)
+  same_told _ _ (nowhere none_at) (somewhere {t = t} told text said) = absurd (none_at t told)
   same_told _ _ (nowhere none_at) (nowhere none_too) = refl
 
   pub one_explanation_is : (t u : List ℕ) → IsExplanation z e t → IsExplanation z e u → t ≡ u

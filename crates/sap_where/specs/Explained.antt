@@ -1,16 +1,12 @@
 -- What is told of a refused file behind the line that refuses it: where its cause stands, and what to change.
 use Rattle.std.specs.Prelude.{◌≡◌, ◌-◌, ℕ, zero, suc, codes, decimal, List, [], ◌∷◌, ◌++◌, length, take, drop}
-use Rattle.sap_text.specs.declared.fault.Lex.{Lex as LexFault}
-use Rattle.sap_locks.specs.declared.fault.LockFault.{LockFault}
 use Rattle.sap_read.specs.declared.fault.ReadFault.{ReadFault}
-use Rattle.sap_read.specs.declared.fault.ReadFault.TheVariants.{Mem, Lex, Header, Syntax, NoProcess, TwoProcesses, DuplicateName, FunctionClash, Parameters, Lock}
 use Rattle.sap_where.specs.declared.place.Position.{Position}
 use Rattle.sap_where.specs.declared.place.Stretch.{Stretch}
 use Rattle.sap_where.specs.declared.told.Told.{Told}
 use Rattle.sap_where.specs.Advice.{advice}
 use Rattle.sap_where.specs.Positions.{IsPosition, IsPlaceText}
-use Rattle.sap_where.specs.ReadPlaces.{IsReadCause}
-use Rattle.sap_where.specs.Told.{IsPlaceOf, IsTold}
+use Rattle.sap_where.specs.Told.{IsPlaceOf}
 
 -- the bytes of a stretch
 abbrev pub bytes_in : List ℕ → Stretch → List ℕ
@@ -44,7 +40,7 @@ pub record AreUsesTold (z : List ℕ) (us : List Stretch) (t : List ℕ) : Type 
 -- the text shows a place where the cause stands, and tells where what is written there is used; or it is empty, and the cause stands
 -- nowhere
 pub data IsPlaceTold (z : List ℕ) (e : ReadFault) : List ℕ → Type 0 where
-  somewhere : {t : Told} {place user : List ℕ} → IsTold z e t → IsPlaceText z t.word place
+  somewhere : {t : Told} {place user : List ℕ} → IsPlaceOf z e t → IsPlaceText z t.word place
       → AreUsesTold z t.uses user → IsPlaceTold z e (place ++ user)
   nowhere : ((t : Told) → IsPlaceOf z e t → ⊥) → IsPlaceTold z e []
 
@@ -53,17 +49,3 @@ pub record IsExplanation (z : List ℕ) (e : ReadFault) (t : List ℕ) : Type 0 
   pub place : List ℕ
   pub is_place : IsPlaceTold z e place
   pub text : t ≡ place ++ (advice e ++ (10 ∷ []))
-
--- the causes whose place is defined, by the words of the file or by what it is read as, so that one place is told, or none
-pub data IsSettled (z : List ℕ) : ReadFault → Type 0 where
-  wanting : IsSettled z Mem
-  bytes : (f : LexFault) → IsSettled z (Lex f)
-  header : IsSettled z Header
-  syntax : (line : ℕ) → IsSettled z (Syntax line)
-  no_process : IsSettled z NoProcess
-  second_process : (line : ℕ) → IsSettled z (TwoProcesses line)
-  taken_name : (name : List ℕ) → IsSettled z (DuplicateName name)
-  parameter_twice : (name : List ℕ) → IsSettled z (Parameters name)
-  declared_otherwise : (name : List ℕ) → IsSettled z (FunctionClash name)
-  lock : (f : LockFault) → IsSettled z (Lock f)
-  read : {e : ReadFault} → IsReadCause e → IsSettled z e

@@ -7,7 +7,7 @@ use Rattle.sap_grammar.specs.Reading.{Read}
 use Rattle.sap_grammar.specs.Declarations.{Declaration}
 use Rattle.sap_grammar.specs.ItemReading.{declaration_at}
 use Rattle.sap_grammar.specs.Signatures.{clash_from, clash_with, signature_from}
-use Rattle.sap_spot.specs.Found.{begins_item}
+use Rattle.sap_where.specs.Beginnings.{begins_item}
 use Rattle.sap_where.specs.TokenWords.{stands}
 
 -- the last item that begins before token number k begins with this word

@@ -1,3 +1,4 @@
+pub mod Beginnings
 pub mod Positions
 pub mod TokenWords
 pub mod Parameters
@@ -7,13 +8,18 @@ pub mod Placed
 pub mod UndefinedPlaces
 pub mod UsePlaces
 pub mod LimitPlaces
+pub mod LimitExamples
 pub mod FlawPlaces
+pub mod BodyFlawPlaces
 pub mod FlawExamples
+pub mod BodyFlawExamples
 pub mod PartPlaces
+pub mod PartExamples
 pub mod ReadPlaces
 pub mod Told
 pub mod PlaceExamples
 pub mod UseExamples
+pub mod NameExamples
 pub mod Advice
 pub mod Explained
 pub mod ExplainedExamples

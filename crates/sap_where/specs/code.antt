@@ -4,3 +4,6 @@ pub mod NamedUses
 pub mod Walked
 pub mod Beyond
 pub mod PartWalk
+pub mod BodyNodes
+pub mod BodyFlaws
+pub mod FlawNodes

@@ -8,17 +8,17 @@ ghost use Rattle.sap_grammar.specs.Signatures.{clash_from};
 ghost use Rattle.sap_read.specs.Files.{AreTokens};
 ghost use Rattle.sap_read.specs.declared.fault.ReadFault.TheVariants.{FunctionClash};
 ghost use Rattle.sap_where.specs.FileDeclarations.{IsClashAt, declared_at, declared_before, in_item, is_next};
-ghost use Rattle.sap_where.specs.Told.{IsTold};
+ghost use Rattle.sap_where.specs.Told.{IsPlaceOf};
 ghost use Rattle.sap_where.specs.Where.{IsWhere};
 ghost use Rattle.sap_where.specs.code.Declaring.{clash_of, with_given};
 ghost use Rattle.sap_where.specs.declared.place.Stretch.{Stretch};
 
 use crate::declarations::{add_builtin_at, add_symbol_at};
+use crate::items::begins_item;
 use crate::token_words::stands;
 use crate::told::Told;
 use crate::walk::stretch_at;
 use sap_grammar::beyond;
-use sap_spot::begins_item;
 use sap_terms::{Items, Mem, Name, Signature};
 use sap_text::Token;
 use std::alloc::Global;
@@ -158,7 +158,7 @@ pub(crate) fn clash_told(
     requires are { AreTokens bytes.now tokens.now }
     requires within { All (IsWithin (length bytes.now)) tokens.now }
     requires only { (ts : List Token) → AreTokens bytes.now ts → ts ≡ tokens.now }
-    ensures place { IfOk result (λ o. IfSome o (λ t. IsTold bytes.now (FunctionClash name.now) t)) }
+    ensures place { IfOk result (λ o. IfSome o (λ t. IsPlaceOf bytes.now (FunctionClash name.now) t)) }
     ensures inside { IfOk result (λ o. IfSome o (λ t. t.word.from ≤ length bytes.now)) }
     ensures unused { IfOk result (λ o. IfSome o (λ t. t.uses ≡ [])) }
     ensures clash { IfOk result (λ o. o ≡ None

@@ -3,7 +3,7 @@ ghost use Rattle.std.specs.Prelude.{◌≡◌, ◌≤◌, ◌-◌, ◌++◌, ℕ
 ghost use Rattle.std.specs.List.{All};
 ghost use Rattle.sap_where.specs.Advice.{advice};
 ghost use Rattle.sap_where.specs.Explained.{AreUseTexts, AreUsesTold, IsExplanation, IsPlaceTold, IsUseText, more_text};
-ghost use Rattle.sap_where.specs.Told.{IsTold};
+ghost use Rattle.sap_where.specs.Told.{IsPlaceOf};
 ghost use Rattle.sap_where.specs.Where.{IsInBytes};
 
 use crate::advice::advice;
@@ -94,7 +94,7 @@ fn push_uses(text: &mut Text, bytes: &[u8], uses: &[Stretch]) -> Result<(), Mem>
 
 // Puts last what is told of this place.
 fn push_told(text: &mut Text, bytes: &[u8], fault: &ReadFault, told: &Told) -> Result<(), Mem>
-    requires place { IsTold bytes.now fault.now told.now }
+    requires place { IsPlaceOf bytes.now fault.now told.now }
     requires inside { told.now.word.from ≤ length bytes.now }
     requires uses { All (IsInBytes (length bytes.now)) told.now.uses }
     ensures { OnOk result ((t : List ℕ) × (text.new ≡ text.old ++ t)

@@ -4,8 +4,8 @@ ghost use Rattle.std.specs.Str.{bytes_eq};
 ghost use Rattle.sap_grammar.specs.Words.{words_of};
 ghost use Rattle.sap_where.specs.Where.{BeginsAt, HoldsOnce, IsFirst, IsSecond, begins};
 
+use crate::items::{begins_definition, begins_statement};
 use sap_grammar::{beyond, starts};
-use sap_spot::{begins_definition, begins_statement};
 use sap_text::Token;
 
 /// What an item that is looked for begins with.

@@ -8,7 +8,7 @@ ghost use Rattle.sap_read.specs.Files.{AreTokens};
 ghost use Rattle.sap_read.specs.declared.fault.ReadFault.TheVariants.{Syntax};
 ghost use Rattle.sap_expect.specs.FileWords.{IsFileWords};
 ghost use Rattle.sap_where.specs.declared.place.Stretch.{Stretch};
-ghost use Rattle.sap_where.specs.Told.{IsTold};
+ghost use Rattle.sap_where.specs.Told.{IsPlaceOf};
 ghost use Rattle.sap_where.specs.Where.{IsWhere};
 
 use crate::told::Told;
@@ -24,7 +24,7 @@ pub(crate) fn item_told(alloc: Global, bytes: &[u8], tokens: &[Token]) -> Result
     requires are { AreTokens bytes.now tokens.now }
     requires within { All (IsWithin (length bytes.now)) tokens.now }
     requires only { (ts : List Token) → AreTokens bytes.now ts → ts ≡ tokens.now }
-    ensures place { IfOk result (λ o. IfSome o (λ t. (line : ℕ) → IsTold bytes.now (Syntax line) t)) }
+    ensures place { IfOk result (λ o. IfSome o (λ t. (line : ℕ) → IsPlaceOf bytes.now (Syntax line) t)) }
     ensures inside { IfOk result (λ o. IfSome o (λ t. t.word.from ≤ length bytes.now)) }
     ensures unused { IfOk result (λ o. IfSome o (λ t. t.uses ≡ [])) }
     ensures words { IfOk result (λ o. o ≡ None → IsFileWords (words_of bytes.now tokens.now)) }

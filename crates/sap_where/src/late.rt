@@ -12,7 +12,7 @@ ghost use Rattle.sap_origin.specs.declared.origin.Origin.{Origin as OriginOf};
 ghost use Rattle.sap_read.specs.Files.{AreTokens};
 ghost use Rattle.sap_read.specs.declared.fault.ReadFault.TheVariants.{Lock, Mem as OutOfMemory};
 ghost use Rattle.sap_where.specs.Placed.{IsAtPath, path_of, stretch_before};
-ghost use Rattle.sap_where.specs.Told.{IsPlaceOf, IsTold};
+ghost use Rattle.sap_where.specs.Told.{IsPlaceOf};
 ghost use Rattle.sap_where.specs.Where.{IsInBytes};
 ghost use Rattle.sap_where.specs.code.Walked.{IsOriginTold, LeadsNowhere, LeadsTo};
 ghost use Rattle.sap_where.specs.declared.told.Told.{Told as ToldOf};
@@ -42,8 +42,12 @@ pub(crate) fn stretch_before(tokens: &[Token], word: FileWord) -> Stretch
     stretch_at(tokens, k)
 }
 
-// Those of the names of uses, the last first.
-fn stretches_back(alloc: Global, tokens: &[Token], uses: &[FileWord]) -> Result<Items<Stretch>, Mem>
+/// Those of the names of uses, the last first.
+pub(crate) fn stretches_back(
+    alloc: Global,
+    tokens: &[Token],
+    uses: &[FileWord],
+) -> Result<Items<Stretch>, Mem>
     ensures are { IfOk result (λ us. us
         ≡ map (stretch_before tokens.now) (reverse (map words_left uses.now))) }
     ensures inside { (size : ℕ) → All (IsWithin size) tokens.now
@@ -186,7 +190,7 @@ pub(crate) fn lock_told(
     requires are { AreTokens bytes.now tokens.now }
     requires within { All (IsWithin (length bytes.now)) tokens.now }
     requires only { (ts : List Token) → AreTokens bytes.now ts → ts ≡ tokens.now }
-    ensures place { IfOk result (λ o. IfSome o (λ t. IsTold bytes.now (Lock lock.now) t)) }
+    ensures place { IfOk result (λ o. IfSome o (λ t. IsPlaceOf bytes.now (Lock lock.now) t)) }
     ensures inside { IfOk result (λ o. IfSome o (λ t. t.word.from ≤ length bytes.now)) }
     ensures uses { IfOk result (λ o. IfSome o (λ t. All (IsInBytes (length bytes.now)) t.uses)) }
     ensures none { IfOk result (λ o. o ≡ None → (t : ToldOf) → IsPlaceOf bytes.now (Lock lock.now) t → ⊥) }

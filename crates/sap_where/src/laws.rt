@@ -27,10 +27,10 @@ ghost use Rattle.sap_where.specs.declared.place.Position.{Position};
 ghost use Rattle.sap_where.specs.declared.place.Stretch.{Stretch};
 ghost use Rattle.sap_where.specs.FileDeclarations.{IsClashAt, declared_before};
 ghost use Rattle.sap_where.specs.Parameters.{IsParameter, parameter_at};
-ghost use Rattle.sap_where.specs.Explained.{AreUsesTold, IsExplanation, IsSettled};
+ghost use Rattle.sap_where.specs.Explained.{AreUsesTold, IsExplanation};
 ghost use Rattle.sap_where.specs.ExplainedExamples.{at_word, beside_it, first_byte, first_use, first_word, four_uses, four_words, nine_words, one_mark, second_use, through_uses, two_names, two_names_tokens, used_word, uses};
 ghost use Rattle.sap_where.specs.Placed.{IsAtPath, IsPlaced, path_of, stretch_before};
-ghost use Rattle.sap_where.specs.Told.{IsPlaceOf, IsTold};
+ghost use Rattle.sap_where.specs.Told.{IsPlaceOf};
 ghost use Rattle.sap_where.specs.declared.told.Told.{Told};
 
 use crate::read_laws::read_places;
@@ -131,10 +131,10 @@ pub fn by_the_grammar()
         → declared_before z ts (length ts) ≡ declarations is }
 {}
 
-/// A law: of a cause whose place is defined by the words of the file one text is told.
+/// A law: of a cause one text is told.
 pub fn one_explanation()
-    ensures { (z : List ℕ) (e : ReadFault) (t u : List ℕ) → IsSettled z e → IsExplanation z e t
-        → IsExplanation z e u → t ≡ u }
+    ensures { (z : List ℕ) (e : ReadFault) (t u : List ℕ) → IsExplanation z e t → IsExplanation z e u
+        → t ≡ u }
 {
     one_place();
     one_place_text();
@@ -166,7 +166,4 @@ pub fn explanations_by_hand()
         × (stretch_before two_names_tokens 1 ≡ stretch 4 5 → ⊥) }
     ensures along { (z : List ℕ) (ts : List Token) → IsPlaced z ts both (record { process = small; behind = 1 })
         → IsAtPath z (1 ∷ []) (through_uses ts) × IsAtPath z (2 ∷ []) (beside_it ts) }
-    ensures either_name { AreTokens two_names two_names_tokens
-        → IsTold two_names (Flawed (codes "P") Unbound []) (at_word 1)
-        × IsTold two_names (Flawed (codes "P") Unbound []) (at_word 2) }
 {}

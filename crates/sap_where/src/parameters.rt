@@ -9,11 +9,11 @@ ghost use Rattle.sap_where.specs.Parameters.{CanBeParameter, IsParameter, goes_o
 ghost use Rattle.sap_where.specs.Where.{HoldsOnce, IsRepeatedAt, IsSecond, IsWhere};
 ghost use Rattle.sap_where.specs.declared.place.Stretch.{Stretch};
 
+use crate::items::has_name;
 use crate::place::Stretch;
 use crate::token_words::{is_named, stands};
 use crate::walk::stretch_at;
 use sap_grammar::beyond;
-use sap_spot::has_name;
 use sap_terms::Name;
 use sap_text::Token;
 

@@ -6,6 +6,8 @@ ghost use Rattle.sap_read.specs.declared.fault.ReadFault.{ReadFault};
 ghost use Rattle.sap_where.specs.ReadPlaces.{IsReadCause, IsReadPlace};
 ghost use Rattle.sap_where.specs.declared.told.Told.{Told};
 
+use crate::body_flaw_laws::body_flaw_places;
+use crate::flaw_laws::flaw_places;
 use crate::limit_laws::limit_places;
 use crate::part_laws::part_places;
 use crate::undefined_laws::undefined_places;
@@ -20,5 +22,7 @@ pub fn read_places()
     limit_places();
     undefined_places();
     use_places();
+    flaw_places();
+    body_flaw_places();
     part_places();
 }

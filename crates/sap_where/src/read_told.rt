@@ -8,6 +8,8 @@ ghost use Rattle.sap_where.specs.ReadPlaces.{IsReadPlace};
 ghost use Rattle.sap_where.specs.Where.{IsInBytes};
 ghost use Rattle.sap_where.specs.declared.told.Told.{Told as ToldOf};
 
+use crate::body_flaw_told::body_flaw_told;
+use crate::flaw_told::flaw_told;
 use crate::limit_told::{Limit, limit_told};
 use crate::part::part_told;
 use crate::told::Told;
@@ -19,7 +21,8 @@ use sap_text::Token;
 use std::alloc::Global;
 
 /// What is told of the cause where what is read of the file has it: of a name that nothing before it defines its first use; of another
-/// number of arguments, and of one that is too large, the use; of a limit the first place beyond; of a fault of a formula the word of its part.
+/// number of arguments, and of one that is too large, the use; of a limit the first place beyond; of a flaw the word from which the
+/// node stems of which it speaks, or its lock; of a fault of a formula the word of its part.
 /// `None` for all other causes.
 pub(crate) fn read_told(
     alloc: Global,
@@ -41,6 +44,10 @@ pub(crate) fn read_told(
         ReadFault::Large { name } => large_use_told(alloc, bytes, tokens, name.as_bytes()),
         ReadFault::TooMany => limit_told(alloc, bytes, tokens, Limit::Places),
         ReadFault::TooDeep => limit_told(alloc, bytes, tokens, Limit::Levels),
+        ReadFault::Flawed { name, which, path } => {
+            body_flaw_told(alloc, bytes, tokens, name, *which, path)
+        }
+        ReadFault::Ill { which, path } => flaw_told(alloc, bytes, tokens, *which, path),
         ReadFault::Formula { name, fault } => part_told(alloc, bytes, tokens, name, fault),
         _ => Ok(None),
     }

@@ -14,7 +14,7 @@ ghost use Rattle.sap_grammar.specs.Signatures.{clash_from};
 ghost use Rattle.sap_expect.specs.FileWords.{IsFileWords};
 ghost use Rattle.sap_where.specs.FileDeclarations.{declared_before};
 ghost use Rattle.sap_where.specs.Parameters.{IsParameter};
-ghost use Rattle.sap_where.specs.Told.{HasPlace, IsPlaceOf, IsTold};
+ghost use Rattle.sap_where.specs.Told.{HasPlace, IsPlaceOf};
 ghost use Rattle.sap_where.specs.Where.{HoldsOnce, IsInBytes, IsWhere, StartsFile, offset_of, one_byte, stretch_at};
 ghost use Rattle.sap_where.specs.declared.place.Stretch.{Stretch};
 ghost use Rattle.sap_where.specs.declared.told.Told.{Told as ToldOf};
@@ -29,7 +29,6 @@ use crate::read_told::read_told;
 use crate::walk::{byte_of, file_tokens, place_in, stretch_at};
 use sap_expect::files_are_their_words;
 use sap_read::ReadFault;
-use sap_spot::word_of;
 use sap_terms::{Items, Mem};
 use sap_text::{Lex, Token};
 use std::alloc::Global;
@@ -41,43 +40,8 @@ pub struct Told {
     pub uses: Items<Stretch>,
 }
 
-// The stretch of a word, if there is one, as a list.
-fn uses_of(alloc: Global, tokens: &[Token], word: Option<usize>) -> Result<Items<Stretch>, Mem>
-    ensures is { IfOk result (λ us. us ≡ option_to_list (option_map (stretch_at tokens.now) word)) }
-    ensures inside { (size : ℕ) → All (IsWithin size) tokens.now
-        → IfOk result (λ us. All (IsInBytes size) us) }
-{
-    let mut uses = Items::new(alloc);
-    if let Some(k) = word {
-        uses.push(stretch_at(tokens, k))?;
-    }
-    Ok(uses)
-}
-
-// The word of which the cause can speak, if one is found among these tokens.
-fn told_among(
-    alloc: Global,
-    bytes: &[u8],
-    tokens: &[Token],
-    fault: &ReadFault,
-) -> Result<Option<Told>, Mem>
-    requires are { AreTokens bytes.now tokens.now }
-    requires within { All (IsWithin (length bytes.now)) tokens.now }
-    ensures place { IfOk result (λ o. IfSome o (λ t. IsTold bytes.now fault.now t)) }
-    ensures inside { IfOk result (λ o. IfSome o (λ t. t.word.from ≤ length bytes.now)) }
-    ensures uses { IfOk result (λ o. IfSome o (λ t. All (IsInBytes (length bytes.now)) t.uses)) }
-{
-    match word_of(alloc, bytes, tokens, fault)? {
-        Some(found) => Ok(Some(Told {
-            word: stretch_at(tokens, found.word),
-            uses: uses_of(alloc, tokens, found.used)?,
-        })),
-        None => Ok(None),
-    }
-}
-
-// Where the cause stands among these tokens, if its place is defined, or else the word of which it can speak.
-fn place_or_word(
+// Where the cause stands among these tokens, if the words of the file place it.
+fn placed(
     alloc: Global,
     bytes: &[u8],
     tokens: &[Token],
@@ -89,7 +53,7 @@ fn place_or_word(
     requires no_byte { (f : Lex) → fault.now ≡ LexFault f → ⊥ }
     requires no_item { (line : ℕ) → fault.now ≡ Syntax line → ⊥ }
     requires no_clash { (x : List ℕ) → fault.now ≡ FunctionClash x → ⊥ }
-    ensures place { IfOk result (λ o. IfSome o (λ t. IsTold bytes.now fault.now t)) }
+    ensures place { IfOk result (λ o. IfSome o (λ t. IsPlaceOf bytes.now fault.now t)) }
     ensures inside { IfOk result (λ o. IfSome o (λ t. t.word.from ≤ length bytes.now)) }
     ensures uses { IfOk result (λ o. IfSome o (λ t. All (IsInBytes (length bytes.now)) t.uses)) }
     ensures header { IfOk result (λ o. fault.now ≡ Header → o ≡ None
@@ -103,7 +67,7 @@ fn place_or_word(
             word,
             uses: Items::new(alloc),
         })),
-        None => told_among(alloc, bytes, tokens, fault),
+        None => Ok(None),
     }
 }
 
@@ -121,7 +85,7 @@ fn read_or_placed(
     requires no_item { (line : ℕ) → fault.now ≡ Syntax line → ⊥ }
     requires no_clash { (x : List ℕ) → fault.now ≡ FunctionClash x → ⊥ }
     requires no_lock { (f : LockFault) → fault.now ≡ Lock f → ⊥ }
-    ensures place { IfOk result (λ o. IfSome o (λ t. IsTold bytes.now fault.now t)) }
+    ensures place { IfOk result (λ o. IfSome o (λ t. IsPlaceOf bytes.now fault.now t)) }
     ensures inside { IfOk result (λ o. IfSome o (λ t. t.word.from ≤ length bytes.now)) }
     ensures uses { IfOk result (λ o. IfSome o (λ t. All (IsInBytes (length bytes.now)) t.uses)) }
     ensures header { IfOk result (λ o. fault.now ≡ Header → o ≡ None
@@ -132,7 +96,7 @@ fn read_or_placed(
 {
     match read_told(alloc, bytes, tokens, fault)? {
         Some(told) => Ok(Some(told)),
-        None => place_or_word(alloc, bytes, tokens, fault),
+        None => placed(alloc, bytes, tokens, fault),
     }
 }
 
@@ -147,7 +111,7 @@ fn told_in(
     requires within { All (IsWithin (length bytes.now)) tokens.now }
     requires only { (ts : List Token) → AreTokens bytes.now ts → ts ≡ tokens.now }
     requires no_byte { (f : Lex) → fault.now ≡ LexFault f → ⊥ }
-    ensures place { IfOk result (λ o. IfSome o (λ t. IsTold bytes.now fault.now t)) }
+    ensures place { IfOk result (λ o. IfSome o (λ t. IsPlaceOf bytes.now fault.now t)) }
     ensures inside { IfOk result (λ o. IfSome o (λ t. t.word.from ≤ length bytes.now)) }
     ensures uses { IfOk result (λ o. IfSome o (λ t. All (IsInBytes (length bytes.now)) t.uses)) }
     ensures header { IfOk result (λ o. fault.now ≡ Header → o ≡ None
@@ -193,7 +157,7 @@ fn byte_told(alloc: Global, lex: Lex, size: u64) -> Option<Told>
 /// `sap_spot` finds. `None`, where nothing of this is found in the bytes, and for all other causes. The time is linear in the bytes and in
 /// what is read of them, but for names, which are looked up. Want of memory is the only error.
 pub fn place_of(alloc: Global, bytes: &[u8], fault: &ReadFault) -> Result<Option<Told>, Mem>
-    ensures place { IfOk result (λ o. IfSome o (λ t. IsTold bytes.now fault.now t)) }
+    ensures place { IfOk result (λ o. IfSome o (λ t. IsPlaceOf bytes.now fault.now t)) }
     ensures inside { IfOk result (λ o. IfSome o (λ t. t.word.from ≤ length bytes.now)) }
     ensures uses { IfOk result (λ o. IfSome o (λ t. All (IsInBytes (length bytes.now)) t.uses)) }
     ensures none { IfOk result (λ o. o ≡ None → (t : ToldOf) → IsPlaceOf bytes.now fault.now t → ⊥) }

@@ -84,6 +84,14 @@ pub returns-clause-origin : goal.returns-clause-origin
 returns-clause-origin c =
     record { standing = _; place = _; reaches = reaches_left (reaches_use refl (reaches_use refl (reaches_here tt))); word_is = refl; uses_are = refl }
 
+-- the word that an origin tells is that of the place
+pub returns-clause-one_word : goal.returns-clause-one_word
+returns-clause-one_word c = λ o h.
+    let comes : ComesTo (1 ∷ []) (words_left o.word) (reverse (map words_left o.uses)) =
+    record { standing = h.standing; place = h.place; reaches = h.reaches; word_is = h.word_is; uses_are = h.uses_are }
+    in
+    (one_word comes through_both).0
+
 -- so it is a place to which one comes through these uses
 as_place : (us : List FileWord) → IsOrigin both small 1 (1 ∷ []) (out_in_p us) → ComesTo (1 ∷ []) 20 (reverse (map words_left us))
 as_place us o = record { standing = o.standing; place = o.place; reaches = o.reaches; word_is = o.word_is; uses_are = o.uses_are }

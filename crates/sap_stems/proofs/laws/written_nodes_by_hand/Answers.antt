@@ -1,10 +1,10 @@
 use Rattle.std.proofs.Common.{◌≡◌, ℕ, List, [], ◌∷◌, Option, Some, None, refl, sym, ap, subst, ◌∙◌}
-use Rattle.std.specs.Prelude.{◌↔◌, slice_get}
+use Rattle.std.specs.Prelude.{slice_get}
 use Rattle.sap_macro.specs.Located.{Located}
 use Rattle.sap_origin.specs.Definitions.{LocatedDefinition}
 use Rattle.sap_origin.specs.Reached.{reaches_here, reaches_use, reaches_behind}
-use Rattle.sap_stems.specs.Examples.{IsWritten, chain_defs, two, two_defs, with_a}
-use Rattle.sap_stems.specs.StemOf.{IsNodeOf, IsSome, IsStemAt}
+use Rattle.sap_stems.specs.Examples.{chain_defs, two, two_defs, with_a}
+use Rattle.sap_stems.specs.StemOf.{IsSome, IsStemAt}
 use Rattle.sap_stems.specs.Stems.{Stem}
 use Rattle.sap_stems.specs.StemsAt.{AreStems}
 use Rattle.sap_stems.specs.declared.making.WrittenNode.{WrittenNode}

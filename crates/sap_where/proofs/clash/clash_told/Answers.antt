@@ -1,12 +1,12 @@
 use Rattle.std.specs.Prelude.{length}
-use Rattle.sap_where.specs.Told.{at_its_place, by_words}
+use Rattle.sap_where.specs.Told.{by_words}
 use Rattle.sap_where.specs.Where.{at_declaration}
 use Rattle.sap_where.proofs.Nowhere.{clash_nowhere}
 use Rattle.sap_where.proofs.clash.clash_told.Goals as goal
 
 pub returns-in-Some-clause-place : goal.returns-in-Some-clause-place
 returns-in-Some-clause-place c =
-    at_its_place (by_words (at_declaration c.requires.are (rw (c.in-Some.is, c.as_bytes.ensures) at c.in_ok-k.ensures) c.stretch_at.ensures.is) c.new.ensures)
+    (by_words (at_declaration c.requires.are (rw (c.in-Some.is, c.as_bytes.ensures) at c.in_ok-k.ensures) c.stretch_at.ensures.is) c.new.ensures)
 
 pub returns-in-Some-clause-inside : goal.returns-in-Some-clause-inside
 returns-in-Some-clause-inside c = c.stretch_at.ensures.within (length c.args.bytes.now) c.requires.within

@@ -1,5 +1,5 @@
 use Rattle.sap_terms.specs.declared.limits.TheConstants.{MOST_FILE_NAME_BYTES}
-use Rattle.sap_where.specs.Told.{at_its_place, by_words}
+use Rattle.sap_where.specs.Told.{by_words}
 use Rattle.sap_where.specs.Where.{at_item}
 use Rattle.sap_where.proofs.Nowhere.{item_nowhere}
 use Rattle.sap_where.proofs.item_place.item_told.Goals as goal
@@ -9,7 +9,7 @@ first_wrong-requires c = (MOST_FILE_NAME_BYTES, c.requires.are)
 
 pub returns-in-Some-clause-place : goal.returns-in-Some-clause-place
 returns-in-Some-clause-place c = λ line.
-    at_its_place (by_words (at_item c.requires.are (rw c.in-Some.is at c.in_ok-k.ensures) c.stretch_at.ensures.is) c.new.ensures)
+    (by_words (at_item c.requires.are (rw c.in-Some.is at c.in_ok-k.ensures) c.stretch_at.ensures.is) c.new.ensures)
 
 pub returns-in-None-clause-none : goal.returns-in-None-clause-none
 returns-in-None-clause-none c = λ e line s.

@@ -9,14 +9,13 @@ use Rattle.sap_text.specs.declared.fault.Lex.TheVariants.{BadByte}
 use Rattle.sap_where.specs.declared.place.Stretch.{Stretch}
 use Rattle.sap_where.specs.declared.told.Told.{Told}
 use Rattle.sap_where.specs.Positions.{IsFeed, IsPlaceText, IsPosition, LineBegins, LineEnds}
-use Rattle.sap_where.specs.Told.{IsPlaceOf, IsTold, at_its_place, by_words}
+use Rattle.sap_where.specs.Told.{IsPlaceOf, by_words}
 use Rattle.sap_where.specs.Where.{IsWhere, at_byte}
 use Rattle.sap_where.specs.Advice.{advice}
 use Rattle.sap_where.specs.Explained.{AreUseTexts, AreUsesTold, IsPlaceTold, IsUseText, a_use, no_use, nowhere, somewhere}
 use Rattle.sap_where.specs.ExplainedExamples.{first_use, first_word, four_uses, four_words, nine_words, one_mark, second_use, shown_byte, used_word, uses}
 use Rattle.sap_origin.specs.Examples.{both, small}
 use Rattle.sap_origin.specs.Reached.{reaches_here, reaches_left, reaches_right, reaches_use}
-use Rattle.sap_where.proofs.Loose.{told_at}
 use Rattle.sap_where.proofs.PathTold.{without_path}
 use Rattle.sap_where.proofs.Positions.{one_position}
 use Rattle.sap_where.proofs.Telling.{one_uses_text}
@@ -88,8 +87,8 @@ told = record { word = byte; uses = [] }
 at_byte_0 : IsWhere one_mark (Lex (BadByte 0)) byte
 at_byte_0 = at_byte refl (omega arith) refl
 
-is_told : IsTold one_mark (Lex (BadByte 0)) told
-is_told = at_its_place (by_words at_byte_0 refl)
+is_told : IsPlaceOf one_mark (Lex (BadByte 0)) told
+is_told = (by_words at_byte_0 refl)
 
 place_told : IsPlaceTold one_mark (Lex (BadByte 0)) (shown_byte ++ [])
 place_told = somewhere is_told byte_text (record { texts = []; are = no_use; text = refl })
@@ -226,6 +225,3 @@ returns-clause-along c = λ z ts placed. (
     uses_are = refl;
   },
 )
-
-pub returns-clause-either_name : goal.returns-clause-either_name
-returns-clause-either_name c = λ are. (told_at _ 1 (omega arith) (omega arith) refl are, told_at _ 2 (omega arith) (omega arith) refl are)

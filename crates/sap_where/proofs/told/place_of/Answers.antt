@@ -3,7 +3,7 @@ use Rattle.std.specs.Prelude.{Err, IfSome}
 use Rattle.sap_read.specs.Files.{IsRead}
 use Rattle.sap_read.specs.declared.fault.ReadFault.{ReadFault}
 use Rattle.sap_where.specs.declared.told.Told.{Told}
-use Rattle.sap_where.specs.Told.{IsTold}
+use Rattle.sap_where.specs.Told.{IsPlaceOf}
 use Rattle.sap_where.proofs.Faults.{byte_place, byte_told, tokens_told}
 use Rattle.sap_where.proofs.ItemPlace.{place_told_of}
 use Rattle.sap_where.proofs.Nowhere.{no_tokens_nowhere}
@@ -12,7 +12,7 @@ use Rattle.sap_where.proofs.told.place_of.Goals as goal
 
 pub returns-in-Lex-clause-place : goal.returns-in-Lex-clause-place
 returns-in-Lex-clause-place c =
-    subst (λ (e : ReadFault). IfSome c.byte_told.result (λ (t : Told). IsTold c.args.bytes.now e t)) (sym c.in-Lex.is)
+    subst (λ (e : ReadFault). IfSome c.byte_told.result (λ (t : Told). IsPlaceOf c.args.bytes.now e t)) (sym c.in-Lex.is)
     (byte_place c.args.bytes.now c.in-Lex.lex c.byte_told.result c.byte_told.ensures)
 
 pub returns-in-Lex-clause-told : goal.returns-in-Lex-clause-told

@@ -1,2 +1,0 @@
-pub mod WordsByHand
-pub mod Standing
