@@ -38,7 +38,7 @@ def_is h = cc (h)
 module _ {ds : List LocatedDefinition} where
   through : {s : Standing} {k : ℕ} {f : List ℕ} {ts : List Tree} {d : LocatedDefinition} {path : List ℕ} {y : Proc} → definition_of ds f ≡ Some d → Found ds (entered s k d) d.body path y
       → Found ds s (call_at k f ts) path y
-  through e h = record { standing = h.standing; place = h.place; reached = reaches_use e h.reached; form = h.form; means = h.means }
+  through e h = record { standing = h.standing; place = h.place; reached = reaches_use e tt h.reached; form = h.form; means = h.means }
 
   pub found : (s : Standing) {p : Located} {x y : Proc} (path : List ℕ) → Means ds p x → process_at x path ≡ Some y → Found ds s p path y
   found s path (means_use {k = k} {d = d} e m) h = through e (found (entered s k d) path m h)
@@ -75,7 +75,7 @@ module _ {ds : List LocatedDefinition} where
 
   pub there : {s z : Standing} {p q : Located} {x : Proc} {path : List ℕ} → Means ds p x → Reaches ds s p path z q → IsThere ds x path q
   there {x = x} m (reaches_here f) = record { process = x; stands = refl; means = m }
-  there {x = x} (means_use {d = c} e m) (reaches_use {d = d} g h) =
+  there {x = x} (means_use {d = c} e m) (reaches_use {d = d} g r h) =
       there (subst (λ (b : LocatedDefinition). Means ds b.body x) (def_is (sym e ∙ g)) m) h
   there (means_parallel m n) (reaches_left h) = let r = there m h in record { process = r.process; stands = r.stands; means = r.means }
   there (means_parallel m n) (reaches_right h) = let r = there n h in record { process = r.process; stands = r.stands; means = r.means }

@@ -1,7 +1,9 @@
 pub mod Plain
 pub mod OneReach
 pub mod Found
-pub mod Meant
 pub mod Ordered
+pub mod Meant
+pub mod Numbered
+pub mod TrailUses
 pub mod Walked
 pub mod Uses

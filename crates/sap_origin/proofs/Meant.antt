@@ -15,6 +15,7 @@ use Rattle.sap_macro.specs.Order.{AreInOrder, UsesOnly}
 use Rattle.sap_macro.specs.Written.{Written, call, Definition}
 use Rattle.sap_origin.specs.Definitions.{LocatedDefinition, plain_definition}
 use Rattle.sap_origin.specs.Meant.{Means, means_nil, means_parallel, means_replicated, means_act, means_test, means_lookup, means_use, definition_of}
+use Rattle.sap_origin.proofs.Ordered.{uses_more}
 
 -- what the law of names without parameters says of these definitions
 pub record PlainLaw (ds : List Definition) : Type 0 where
@@ -172,14 +173,4 @@ module _ (ds : List LocatedDefinition) where
     expansion_meant order p identifiers uses =
         let all = all_meant ds [] no_meaning order (λ f fails. refl) (λ d among. among) nothing_meant none_right in
         subst (λ (bs : List Definition). Means ds p (expanded (meaning_of bs) unchanged same_name (plain plain_ds (without_numbers p)) identifiers).process) (sym law.bodies)
-        (all.meant (meaning_of (map (with_plain_body plain_ds) plain_ds)) all.right p (more_names all.names p uses all.hold_all) unchanged same_name identifiers)
-      where
-        more_names : (names : List (List ℕ)) (q : Located) → UsesOnly (defined plain_ds) (without_numbers q) → ((f : List ℕ) → is_known (defined plain_ds) f ≡ true → is_known names f ≡ true)
-            → UsesOnly names (without_numbers q)
-        more_names names (nil_at k) uses hold = tt
-        more_names names (call_at k f ts) uses hold = hold f uses
-        more_names names (parallel_at k p q) uses hold = (more_names names p uses.0 hold, more_names names q uses.1 hold)
-        more_names names (replicated_at k p) uses hold = more_names names p uses hold
-        more_names names (act_at k a p) uses hold = more_names names p uses hold
-        more_names names (test_at k t u p q) uses hold = (more_names names p uses.0 hold, more_names names q uses.1 hold)
-        more_names names (lookup_at k t x p q) uses hold = (more_names names p uses.0 hold, more_names names q uses.1 hold)
+        (all.meant (meaning_of (map (with_plain_body plain_ds) plain_ds)) all.right p (uses_more (defined plain_ds) all.names all.hold_all (without_numbers p) uses) unchanged same_name identifiers)

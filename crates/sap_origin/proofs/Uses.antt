@@ -1,12 +1,10 @@
 -- Through the use of a name.
-use Rattle.std.proofs.Common.{◌≡◌, ◌<◌, ℕ, zero, suc, ◌+◌, true, false, List, [], ◌∷◌, ◌++◌, length, map, reverse, take, drop, Option, Some, refl, sym, ap, subst, ◌∙◌, arith}
-use Rattle.std.proofs.lemmas.List.{map_push, reverse-append}
+use Rattle.std.proofs.Common.{◌≡◌, ◌<◌, ℕ, true, false, List, [], ◌∷◌, length, map, take, drop, Option, Some, refl, sym, ap, subst, ◌∙◌, arith}
 use Rattle.std.specs.Prelude.{slice_get, slice_index_or}
 use Rattle.std.specs.Borrow.{Bor}
-use Rattle.std.proofs.lemmas.Option.{slice_get_within}
 use Rattle.sap_terms.specs.Tree.{Tree}
 use Rattle.sap_terms.specs.Variables.{is_known}
-use Rattle.sap_macro.specs.Indexed.{IsIndex, defined}
+use Rattle.sap_macro.specs.Indexed.{defined}
 use Rattle.sap_macro.specs.Located.{Located, call_at, without_numbers}
 use Rattle.sap_macro.specs.Order.{AreInOrder, UsesOnly}
 use Rattle.sap_macro.specs.Sources.{definition_of, definitions, located, written}
@@ -14,83 +12,74 @@ use Rattle.sap_macro.specs.Written as plain
 use Rattle.sap_macro.specs.Written.{Written}
 use Rattle.sap_macro.specs.declared.definition.Definition.{Definition}
 use Rattle.sap_macro.specs.declared.source.Source.{Source}
-use Rattle.sap_origin.specs.Definitions.{LocatedDefinition, located_definitions}
+use Rattle.sap_origin.specs.Definitions.{LocatedDefinition, located_definitions, plain_definition, with_words}
 use Rattle.sap_origin.specs.Meant as meant
-use Rattle.sap_origin.specs.Reached.{Reaches, Standing, entered}
-use Rattle.sap_origin.specs.Origins.{words_left}
-use Rattle.sap_origin.specs.code.Steps.{AreSame, GoesOn, IsWithin, StandsSo}
-use Rattle.sap_origin.specs.declared.origin.FileWord.{FileWord}
-use Rattle.sap_origin.specs.declared.origin.Here.{Here}
-use Rattle.sap_origin.proofs.Ordered.{before_bound, body_uses, stands_at, stands_nowhere}
-use Rattle.sap_origin.proofs.Plain.{IsPlain}
-use Rattle.sap_origin.proofs.Walked.{not_used, same_used}
+use Rattle.sap_origin.specs.Reached.{IsLeft, IsReplaced, Standing, entered}
+use Rattle.sap_origin.specs.code.Steps.{AreSame, GoesOn, IsWithin}
+use Rattle.sap_origin.specs.declared.trail.Here.{Here}
+use Rattle.sap_origin.specs.declared.trail.Replaced.{Replaced}
+use Rattle.sap_origin.specs.declared.trail.Replaced.TheVariants.{Plain}
+use Rattle.sap_origin.specs.declared.trail.Use.{Use}
+use Rattle.sap_origin.proofs.Numbered.{at_plain, located_at}
+use Rattle.sap_origin.proofs.Ordered.{before_bound, body_uses, stands_for, stands_nowhere}
+use Rattle.sap_origin.proofs.Plain.{IsPlain, plain_definitions}
+use Rattle.sap_origin.proofs.Walked.{same_used}
 
-got : (ns : List ℕ) (k : ℕ) → k < length ns → slice_get ns k ≡ Some (slice_index_or ns k 0)
-got [] k h = absurd (omega arith)
-got (n ∷ ns) zero h = refl
-got (n ∷ ns) (suc k) h = got ns k (omega arith)
+some_is : {d e : LocatedDefinition} → ◌≡◌ {A = Option LocatedDefinition} (Some d) (Some e) → d ≡ e
+some_is h = cc (h)
 
-at_plain : (ds : List Definition) (k : ℕ) (d : Definition) → slice_get ds k ≡ Some d → slice_get (definitions ds) k ≡ Some (definition_of d)
-at_plain [] k d e = absurd (cc (e))
-at_plain (c ∷ ds) zero d e = let is : c ≡ d = cc (e) in rw is refl
-at_plain (c ∷ ds) (suc k) d e = at_plain ds k d e
+module _ (law : IsPlain) (defs : List Definition) (order : AreInOrder [] (definitions defs)) (ns : List ℕ) (count : length ns ≡ length defs) where
+  -- a use of a name that nothing defines is left
+  pub undefined : (v : Replaced) (f : List ℕ) → is_known (defined (definitions defs)) f ≡ false → IsLeft (located_definitions defs ns) v f
+  undefined v f unknown d e g =
+      let none : is_known (defined (map plain_definition (located_definitions defs ns))) f ≡ false =
+      subst (λ (es : List plain.Definition). is_known (defined es) f ≡ false) (sym (plain_definitions law defs ns count)) unknown in
+      absurd (cc (stands_nowhere (located_definitions defs ns) f none, e))
 
--- a use more is the innermost
-noted_words : (us : List FileWord) (u : FileWord) → reverse (map words_left (us ++ u ∷ [])) ≡ words_left u ∷ reverse (map words_left us)
-noted_words us u = ap reverse (map_push words_left us u) ∙ reverse-append (map words_left us) (words_left u ∷ [])
-
-module _ (law : IsPlain) (defs : List Definition) (ns : List ℕ) (order : AreInOrder [] (definitions defs)) (count : length ns ≡ length defs) (h : Here) (left : ℕ) (f : List ℕ) (ts : List Tree)
-    (is : located h.source.now ≡ call_at left f ts) (path : List ℕ) (s : Standing) (us : List FileWord) (so : StandsSo s us h) (within : IsWithin (definitions defs) path h) where
-  -- what nothing defines leads nowhere
-  pub undefined : is_known (defined (definitions defs)) f ≡ false → (z : Standing) (w : Located) → Reaches (located_definitions defs ns) s (located h.source.now) (drop h.at path) z w → ⊥
-  undefined none = subst (λ (p : Located). (z : Standing) (w : Located) → Reaches (located_definitions defs ns) s p (drop h.at path) z w → ⊥) (sym is)
-      (not_used (located_definitions defs ns) s left f ts (drop h.at path) (stands_nowhere defs ns f none))
-
-  module _ (k : ℕ) (d : Definition) (at : slice_get defs k ≡ Some d) (index : IsIndex (definitions defs) f (Some k)) (r : Bor Source) (body : r.now ≡ d.body.value) where
-    name_is : d.name ≡ f
-    name_is =
-        let same : ◌≡◌ {A = Option plain.Definition} (Some (definition_of d)) (Some index.0) = sym (at_plain defs k d at) ∙ index.1 in
-        let one : definition_of d ≡ index.0 = cc (same) in
-        ap (λ (e : plain.Definition). e.name) one ∙ index.2
-
-    below : k < length defs
-    below = slice_get_within defs k d at
-
+  module _ (f : List ℕ) (k : ℕ) (d : Definition) (at : slice_get defs k ≡ Some d) (name_is : d.name ≡ f) where
     abbrev there : LocatedDefinition
-    there = record { name = d.name; params = d.params; body = located d.body.value; behind = slice_index_or ns k 0 }
+    there = with_words d (slice_index_or ns k 0)
 
-    stands : meant.definition_of (located_definitions defs ns) f ≡ Some there
-    stands =
-        let inside : k < length ns = let b = below in omega (arith, b, count) in
-        subst (λ (g : List ℕ). meant.definition_of (located_definitions defs ns) g ≡ Some there) name_is (stands_at [] defs ns k d (slice_index_or ns k 0) order at (got ns k inside))
+    stands : slice_get (located_definitions defs ns) k ≡ Some there
+    stands = located_at defs ns k d count at
 
-    earlier : k < h.bound
-    earlier =
-        let used : UsesOnly (defined (take h.bound (definitions defs))) (without_numbers (located h.source.now)) =
-        subst (λ (w : Written). UsesOnly (defined (take h.bound (definitions defs))) w) (sym (law h.source.now)) within.uses in
-        let known : is_known (defined (take h.bound (definitions defs))) f ≡ true =
-        subst (λ (p : Located). UsesOnly (defined (take h.bound (definitions defs))) (without_numbers p)) is used in
-        before_bound [] (definitions defs) h.bound k (definition_of d) order (at_plain defs k d at)
-        (subst (λ (g : List ℕ). is_known (defined (take h.bound (definitions defs))) g ≡ true) (sym name_is) known)
+    meant_there : meant.definition_of (located_definitions defs ns) f ≡ Some there
+    meant_there =
+        let ordered : AreInOrder [] (map plain_definition (located_definitions defs ns)) =
+        subst (λ (es : List plain.Definition). AreInOrder [] es) (sym (plain_definitions law defs ns count)) order in
+        subst (λ (g : List ℕ). meant.definition_of (located_definitions defs ns) g ≡ Some there) name_is (stands_for [] (located_definitions defs ns) k there ordered stands)
 
-    pub goes_through : GoesOn (definitions defs) (located_definitions defs ns) path s us h (Some (record { left = left; behind = h.behind }))
-        (record { source = r; behind = slice_index_or ns k 0; bound = k; at = h.at })
-    goes_through = record {
-      standing = entered s left there;
-      stands = record {
+    -- a use of a name with parameters is left, where those without are replaced
+    pub with_parameters : ¬ (d.params ≡ []) → IsLeft (located_definitions defs ns) Plain f
+    with_parameters some e is none = some (ap (λ (c : LocatedDefinition). c.params) (some_is (sym meant_there ∙ is)) ∙ none)
+
+    module _ (v : Replaced) (replaced : IsReplaced v d.params) (h : Here) (left : ℕ) (ts : List Tree) (is : located h.source.now ≡ call_at left f ts) (path : List ℕ) (s : Standing)
+        (so : s.behind ≡ h.behind) (within : IsWithin (definitions defs) path h) (r : Bor Source) (body : r.now ≡ d.body.value) where
+      earlier : k < h.bound
+      earlier =
+          let used : UsesOnly (defined (take h.bound (definitions defs))) (without_numbers (located h.source.now)) =
+          subst (λ (w : Written). UsesOnly (defined (take h.bound (definitions defs))) w) (sym (law h.source.now)) within.uses in
+          let known : is_known (defined (take h.bound (definitions defs))) f ≡ true =
+          subst (λ (p : Located). UsesOnly (defined (take h.bound (definitions defs))) (without_numbers p)) is used in
+          before_bound [] (definitions defs) h.bound k (definition_of d) order (at_plain defs k d at)
+          (subst (λ (g : List ℕ). is_known (defined (take h.bound (definitions defs))) g ≡ true) (sym name_is) known)
+
+      abbrev used_here : Use
+      used_here = record { source = h.source; behind = h.behind; definition = k }
+
+      pub goes_through : GoesOn (definitions defs) (located_definitions defs ns) v path s h (Some (record { source = h.source; behind = h.behind; definition = k }))
+          (record { source = r; behind = slice_index_or ns k 0; bound = k; at = h.at })
+      goes_through = record {
+        standing = entered s left there;
         behind_is = refl;
-        uses_are =
-            noted_words us (record { left = left; behind = h.behind }) ∙ ap (λ (n : ℕ). (left + n) ∷ reverse (map words_left us)) (sym so.behind_is)
-            ∙ ap (λ (ns : List ℕ). (left + s.behind) ∷ ns) so.uses_are;
-      };
-      within = record {
-        uses = subst (λ (b : Source). UsesOnly (defined (take k (definitions defs))) (written b)) (sym body)
-            (body_uses [] (definitions defs) k (definition_of d) (defined (take k (definitions defs))) order (at_plain defs k d at) (λ g none. absurd (cc (none))) (λ g known. known));
-        bounded = let b = earlier in let c = within.bounded in omega (arith, b, c);
-        at_most = within.at_most;
-      };
-      same = subst (λ (b : Source). AreSame (located_definitions defs ns) s (located h.source.now) (drop h.at path) (entered s left there) (located b) (drop h.at path)) (sym body)
-          (subst (λ (p : Located). AreSame (located_definitions defs ns) s p (drop h.at path) (entered s left there) (located d.body.value) (drop h.at path)) (sym is)
-          (same_used (located_definitions defs ns) s left f ts there (drop h.at path) stands));
-      less = let b = earlier in omega (arith, b);
-    }
+        within = record {
+          uses = subst (λ (b : Source). UsesOnly (defined (take k (definitions defs))) (written b)) (sym body)
+              (body_uses [] (definitions defs) k (definition_of d) (defined (take k (definitions defs))) order (at_plain defs k d at) (λ g none. absurd (cc (none))) (λ g known. known));
+          bounded = let b = earlier in let c = within.bounded in omega (arith, b, c);
+          at_most = within.at_most;
+        };
+        same = subst (λ (b : Source). AreSame (located_definitions defs ns) v s (located h.source.now) (drop h.at path) (used_here ∷ []) (entered s left there) (located b) (drop h.at path)) (sym body)
+            (subst (λ (p : Located). AreSame (located_definitions defs ns) v s p (drop h.at path) (used_here ∷ []) (entered s left there) (located d.body.value) (drop h.at path)) (sym is)
+            (same_used (located_definitions defs ns) v s left f ts there (drop h.at path) used_here meant_there replaced (record { place_is = sym is; behind_is = so; definition_is = stands })));
+        less = let b = earlier in omega (arith, b);
+      }

@@ -16,10 +16,12 @@ pub record LocatedDefinition : Type 0 where
 abbrev pub plain_definition : LocatedDefinition → Definition
 plain_definition d = record { name = d.name; params = d.params; body = without_numbers d.body }
 
--- what the program keeps of definitions, with how many words are behind each
+-- what the program keeps of one, with how many words are behind it
+abbrev pub with_words : code.Definition → ℕ → LocatedDefinition
+with_words d n = record { name = d.name; params = d.params; body = located d.body.value; behind = n }
+
+-- of definitions, with how many words are behind each
 abbrev pub located_definitions : List code.Definition → List ℕ → List LocatedDefinition
 located_definitions [] ns = []
 located_definitions (d ∷ ds) [] = []
-located_definitions (d ∷ ds) (n ∷ ns) =
-    record { name = d.name; params = d.params; body = located d.body.value; behind = n }
-    ∷ located_definitions ds ns
+located_definitions (d ∷ ds) (n ∷ ns) = with_words d n ∷ located_definitions ds ns

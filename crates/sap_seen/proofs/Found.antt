@@ -7,9 +7,9 @@ use Rattle.sap_macro.specs.Located.{Located, call_at}
 use Rattle.sap_nodes.specs.HeadNodes.{head_nodes}
 use Rattle.sap_origin.specs.Definitions.{LocatedDefinition}
 use Rattle.sap_origin.specs.Meant.{definition_of}
-use Rattle.sap_origin.specs.Reached.{Standing, entered, process_at, process_below}
+use Rattle.sap_origin.specs.Reached.{Standing, entered, process_at, process_below, IsSeen, reaches_here, reaches_use, reaches_left, reaches_right, reaches_copy, reaches_behind, reaches_then, reaches_else, reaches_found, reaches_missing}
 use Rattle.sap_seen.specs.SeenNodes.{seen_nodes}
-use Rattle.sap_seen.specs.SeenPlaces.{ComesSeen, IsSeen, seen_here, seen_use, seen_left, seen_right, seen_copy, seen_behind, seen_then, seen_else, seen_found, seen_missing}
+use Rattle.sap_seen.specs.SeenPlaces.{ComesSeen}
 use Rattle.sap_seen.proofs.SeenSo.{SeenSo, so_nil, so_left, so_use, so_parallel, so_replicated, so_act, so_test, so_lookup}
 
 -- one comes to a written place, and it has these nodes
@@ -22,7 +22,7 @@ pub record Found (ds : List LocatedDefinition) (s : Standing) (p : Located) (pat
 here : {ds : List LocatedDefinition} {s : Standing} {p : Located} {x y : Proc} → IsSeen ds p → head_nodes x ≡ seen_nodes p → ◌≡◌ {A = Option Proc} (Some x) (Some y) → Found ds s p [] y
 here {s = s} {p = p} {x = x} {y = y} f m e =
     let is : x ≡ y = cc (e) in
-    record { standing = s; place = p; comes = seen_here f; nodes = subst (λ (z : Proc). head_nodes z ≡ seen_nodes p) is m }
+    record { standing = s; place = p; comes = reaches_here f; nodes = subst (λ (z : Proc). head_nodes z ≡ seen_nodes p) is m }
 
 -- nothing has a place at other digits
 nowhere : {A : Type 0} {y : Proc} (path : List ℕ) → process_below None path ≡ Some y → A
@@ -40,7 +40,7 @@ zero_alone (suc (suc (suc k)) ∷ path) some h = nowhere path h
 module _ {ds : List LocatedDefinition} where
   through : {s : Standing} {k : ℕ} {f : List ℕ} {ts : List Tree} {d : LocatedDefinition} {path : List ℕ} {y : Proc} → definition_of ds f ≡ Some d → d.params ≡ [] → Found ds (entered s k d) d.body path y
       → Found ds s (call_at k f ts) path y
-  through e none h = record { standing = h.standing; place = h.place; comes = seen_use e none h.comes; nodes = h.nodes }
+  through e none h = record { standing = h.standing; place = h.place; comes = reaches_use e none h.comes; nodes = h.nodes }
 
   pub found : (s : Standing) {p : Located} {x y : Proc} (path : List ℕ) → SeenSo ds p x → ¬ (y ≡ whole.nil) → process_at x path ≡ Some y → Found ds s p path y
   found s path (so_use {k = k} {d = d} e none m) some h = through e none (found (entered s k d) path m some h)
@@ -60,22 +60,22 @@ module _ {ds : List LocatedDefinition} where
   found s (suc (suc zero) ∷ path) (so_left l) some h = nowhere path h
   found s (suc (suc (suc k)) ∷ path) (so_left l) some h = nowhere path h
   found s (zero ∷ path) (so_parallel m n) some h = nowhere path h
-  found s (suc zero ∷ path) (so_parallel m n) some h = let r = found s path m some h in record { standing = r.standing; place = r.place; comes = seen_left r.comes; nodes = r.nodes }
-  found s (suc (suc zero) ∷ path) (so_parallel m n) some h = let r = found s path n some h in record { standing = r.standing; place = r.place; comes = seen_right r.comes; nodes = r.nodes }
+  found s (suc zero ∷ path) (so_parallel m n) some h = let r = found s path m some h in record { standing = r.standing; place = r.place; comes = reaches_left r.comes; nodes = r.nodes }
+  found s (suc (suc zero) ∷ path) (so_parallel m n) some h = let r = found s path n some h in record { standing = r.standing; place = r.place; comes = reaches_right r.comes; nodes = r.nodes }
   found s (suc (suc (suc k)) ∷ path) (so_parallel m n) some h = nowhere path h
   found s (zero ∷ path) (so_replicated m) some h = nowhere path h
-  found s (suc zero ∷ path) (so_replicated m) some h = let r = found s path m some h in record { standing = r.standing; place = r.place; comes = seen_copy r.comes; nodes = r.nodes }
+  found s (suc zero ∷ path) (so_replicated m) some h = let r = found s path m some h in record { standing = r.standing; place = r.place; comes = reaches_copy r.comes; nodes = r.nodes }
   found s (suc (suc zero) ∷ path) (so_replicated m) some h = nowhere path h
   found s (suc (suc (suc k)) ∷ path) (so_replicated m) some h = nowhere path h
   found s (zero ∷ path) (so_act m) some h = nowhere path h
-  found s (suc zero ∷ path) (so_act m) some h = let r = found s path m some h in record { standing = r.standing; place = r.place; comes = seen_behind r.comes; nodes = r.nodes }
+  found s (suc zero ∷ path) (so_act m) some h = let r = found s path m some h in record { standing = r.standing; place = r.place; comes = reaches_behind r.comes; nodes = r.nodes }
   found s (suc (suc zero) ∷ path) (so_act m) some h = nowhere path h
   found s (suc (suc (suc k)) ∷ path) (so_act m) some h = nowhere path h
   found s (zero ∷ path) (so_test m n) some h = nowhere path h
-  found s (suc zero ∷ path) (so_test m n) some h = let r = found s path m some h in record { standing = r.standing; place = r.place; comes = seen_then r.comes; nodes = r.nodes }
-  found s (suc (suc zero) ∷ path) (so_test m n) some h = let r = found s path n some h in record { standing = r.standing; place = r.place; comes = seen_else r.comes; nodes = r.nodes }
+  found s (suc zero ∷ path) (so_test m n) some h = let r = found s path m some h in record { standing = r.standing; place = r.place; comes = reaches_then r.comes; nodes = r.nodes }
+  found s (suc (suc zero) ∷ path) (so_test m n) some h = let r = found s path n some h in record { standing = r.standing; place = r.place; comes = reaches_else r.comes; nodes = r.nodes }
   found s (suc (suc (suc k)) ∷ path) (so_test m n) some h = nowhere path h
   found s (zero ∷ path) (so_lookup m n) some h = nowhere path h
-  found s (suc zero ∷ path) (so_lookup m n) some h = let r = found s path m some h in record { standing = r.standing; place = r.place; comes = seen_found r.comes; nodes = r.nodes }
-  found s (suc (suc zero) ∷ path) (so_lookup m n) some h = let r = found s path n some h in record { standing = r.standing; place = r.place; comes = seen_missing r.comes; nodes = r.nodes }
+  found s (suc zero ∷ path) (so_lookup m n) some h = let r = found s path m some h in record { standing = r.standing; place = r.place; comes = reaches_found r.comes; nodes = r.nodes }
+  found s (suc (suc zero) ∷ path) (so_lookup m n) some h = let r = found s path n some h in record { standing = r.standing; place = r.place; comes = reaches_missing r.comes; nodes = r.nodes }
   found s (suc (suc (suc k)) ∷ path) (so_lookup m n) some h = nowhere path h

@@ -1,10 +1,4 @@
-pub mod Plain
-pub mod OneSeen
 pub mod Nodes
-pub mod WrittenSeen
 pub mod SeenSo
 pub mod Found
 pub mod There
-pub mod Ordered
-pub mod Walked
-pub mod Uses

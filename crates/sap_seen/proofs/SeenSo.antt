@@ -19,7 +19,8 @@ use Rattle.sap_macro.specs.UpToNames.{fact}
 use Rattle.sap_macro.specs.Written.{Written, call, Definition}
 use Rattle.sap_origin.specs.Definitions.{LocatedDefinition, plain_definition}
 use Rattle.sap_origin.specs.Meant.{definition_of}
-use Rattle.sap_seen.specs.SeenPlaces.{IsLeft}
+use Rattle.sap_origin.specs.Reached.{IsLeft}
+use Rattle.sap_origin.specs.declared.trail.Replaced.TheVariants as replaced
 
 -- a use that is left, as it is seen
 abbrev pub left_use : List ℕ → List Tree → Proc
@@ -28,7 +29,7 @@ left_use f ts = whole.act (event (fact f false ts)) whole.nil
 -- this is seen of what is written: each form as it is, a use that is left as an event, and another as its definition's body
 pub data SeenSo (ds : List LocatedDefinition) : Located → Proc → Type 0 where
   so_nil : {k : ℕ} → SeenSo ds (nil_at k) whole.nil
-  so_left : {k : ℕ} {f : List ℕ} {ts : List Tree} → IsLeft ds f → SeenSo ds (call_at k f ts) (left_use f ts)
+  so_left : {k : ℕ} {f : List ℕ} {ts : List Tree} → IsLeft ds replaced.Plain f → SeenSo ds (call_at k f ts) (left_use f ts)
   so_use : {k : ℕ} {f : List ℕ} {ts : List Tree} {d : LocatedDefinition} {x : Proc} → definition_of ds f ≡ Some d → d.params ≡ [] → SeenSo ds d.body x → SeenSo ds (call_at k f ts) x
   so_parallel : {k : ℕ} {p q : Located} {x y : Proc} → SeenSo ds p x → SeenSo ds q y → SeenSo ds (parallel_at k p q) (whole.parallel x y)
   so_replicated : {k : ℕ} {p : Located} {x : Proc} → SeenSo ds p x → SeenSo ds (replicated_at k p) (whole.replicated x)
@@ -79,7 +80,7 @@ module _ (ds : List LocatedDefinition) where
       -- its own use
       own_use : (xs : List (List ℕ)) → d.params ≡ xs → (k : ℕ) (ts : List Tree) → SeenSo ds (call_at k d.name ts) (seen (where_none xs (plain plain_ds (without_numbers d.body)) (call d.name ts)))
       own_use [] e k ts = so_use is e (before d.body only)
-      own_use (x ∷ xs) e k ts = so_left (λ c h none. let same : c.params ≡ d.params = ap (λ (b : LocatedDefinition). b.params) (sym (other_is c h)) in absurd (cc (same, e, none)))
+      own_use (x ∷ xs) e k ts = so_left (λ c h g. let none : c.params ≡ [] = g in let same : c.params ≡ d.params = ap (λ (b : LocatedDefinition). b.params) (sym (other_is c h)) in absurd (cc (same, e, none)))
 
       pub more_seen : AreSeen (d.name ∷ known)
       more_seen p uses = by_uses (d.name ∷ known) use_seen p uses

@@ -14,9 +14,10 @@ use Rattle.sap_macro.specs.Written.{Written, call, Definition}
 use Rattle.sap_nodes.specs.HeadNodes.{head_nodes}
 use Rattle.sap_origin.specs.Definitions.{LocatedDefinition, plain_definition}
 use Rattle.sap_origin.specs.Meant.{definition_of}
-use Rattle.sap_origin.specs.Reached.{Standing, process_at}
+use Rattle.sap_origin.specs.Reached.{Standing, process_at, IsLeft, IsSeen, reaches_here, reaches_use, reaches_left, reaches_right, reaches_copy, reaches_behind, reaches_then, reaches_else, reaches_found, reaches_missing}
+use Rattle.sap_origin.specs.declared.trail.Replaced.TheVariants.{Plain}
 use Rattle.sap_seen.specs.SeenNodes.{seen_nodes}
-use Rattle.sap_seen.specs.SeenPlaces.{ComesSeen, IsLeft, IsSeen, seen_here, seen_use, seen_left, seen_right, seen_copy, seen_behind, seen_then, seen_else, seen_found, seen_missing, seen_of}
+use Rattle.sap_seen.specs.SeenPlaces.{ComesSeen, seen_of}
 use Rattle.sap_seen.proofs.SeenSo.{NamesStand}
 
 -- the definition has the name that it stands for
@@ -60,7 +61,7 @@ OthersStay ds = (f : List ℕ) (ts : List Tree) → is_known (map (λ (d : Defin
 
 module _ (ds : List LocatedDefinition) (law : NamesStand (map plain_definition ds)) (others : OthersStay (map plain_definition ds)) where
   -- a use that is left stays
-  stays : (f : List ℕ) (ts : List Tree) → IsLeft ds f → plain_after call (map plain_definition ds) f ts ≡ call f ts
+  stays : (f : List ℕ) (ts : List Tree) → IsLeft ds Plain f → plain_after call (map plain_definition ds) f ts ≡ call f ts
   stays f ts left = by (definition_of ds f) refl
     where
       by : (o : Option LocatedDefinition) → definition_of ds f ≡ o → plain_after call (map plain_definition ds) f ts ≡ call f ts
@@ -89,26 +90,26 @@ module _ (ds : List LocatedDefinition) (law : NamesStand (map plain_definition d
 
   -- where one comes to is seen
   pub is_seen : {s z : Standing} {p q : Located} {path : List ℕ} → ComesSeen ds s p path z q → IsSeen ds q
-  is_seen (seen_here h) = h
-  is_seen (seen_use e none m) = is_seen m
-  is_seen (seen_left m) = is_seen m
-  is_seen (seen_right m) = is_seen m
-  is_seen (seen_copy m) = is_seen m
-  is_seen (seen_behind m) = is_seen m
-  is_seen (seen_then m) = is_seen m
-  is_seen (seen_else m) = is_seen m
-  is_seen (seen_found m) = is_seen m
-  is_seen (seen_missing m) = is_seen m
+  is_seen (reaches_here h) = h
+  is_seen (reaches_use e none m) = is_seen m
+  is_seen (reaches_left m) = is_seen m
+  is_seen (reaches_right m) = is_seen m
+  is_seen (reaches_copy m) = is_seen m
+  is_seen (reaches_behind m) = is_seen m
+  is_seen (reaches_then m) = is_seen m
+  is_seen (reaches_else m) = is_seen m
+  is_seen (reaches_found m) = is_seen m
+  is_seen (reaches_missing m) = is_seen m
 
   pub there : {s z : Standing} {p q : Located} {path : List ℕ} → ComesSeen ds s p path z q → process_at (seen_of ds p) path ≡ Some (seen_of ds q)
-  there (seen_here h) = refl
-  there (seen_use {f = f} {ts = ts} {d = d} {path = path} {q = q} e none m) =
+  there (reaches_here h) = refl
+  there (reaches_use {f = f} {ts = ts} {d = d} {path = path} {q = q} e none m) =
       subst (λ (w : Written). process_at (seen w) path ≡ Some (seen_of ds q)) (sym (stands_for f ts d e none)) (there m)
-  there (seen_left m) = there m
-  there (seen_right m) = there m
-  there (seen_copy m) = there m
-  there (seen_behind m) = there m
-  there (seen_then m) = there m
-  there (seen_else m) = there m
-  there (seen_found m) = there m
-  there (seen_missing m) = there m
+  there (reaches_left m) = there m
+  there (reaches_right m) = there m
+  there (reaches_copy m) = there m
+  there (reaches_behind m) = there m
+  there (reaches_then m) = there m
+  there (reaches_else m) = there m
+  there (reaches_found m) = there m
+  there (reaches_missing m) = there m

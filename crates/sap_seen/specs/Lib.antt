@@ -2,4 +2,3 @@ pub mod SeenPlaces
 pub mod SeenNodes
 pub mod SeenAt
 pub mod Examples
-pub mod code

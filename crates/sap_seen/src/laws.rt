@@ -15,6 +15,8 @@ ghost use Rattle.sap_seen.specs.SeenNodes.{seen_nodes, seen_numbers};
 ghost use Rattle.sap_seen.specs.SeenPlaces.{ComesSeen, seen_of};
 
 use sap_macro::plain_names_stand_for_bodies;
+use sap_origin::one_written_place;
+use sap_stems::ways_lead_to_written_places;
 
 /// A law: where no definition has the name of an earlier one, each uses earlier ones alone, and the process uses these, one comes to each
 /// place of what is seen but a `0` along its path, to a written place that has its nodes. Along a path one comes to one place, through one
@@ -35,6 +37,8 @@ pub fn seen_places()
         (z : Standing) → ComesSeen ds (start behind) p path z q → IsPlaceOf ds p behind z.behind q }
 {
     plain_names_stand_for_bodies();
+    one_written_place();
+    ways_lead_to_written_places();
 }
 
 /// A law: the nodes that are seen at a place have as many numbers as there are of them, where those that are written there have.
@@ -62,4 +66,6 @@ pub fn seen_by_hand()
         × (SeesAt (2 ∷ 1 ∷ 1 ∷ []) q n us → ⊥) }
     ensures numbers { seen_numbers r_body (2 ∷ []) ≡ 4 ∷ 2 ∷ [] }
     ensures numbers_of_form { seen_numbers b_right (7 ∷ []) ≡ 7 ∷ [] }
-{}
+{
+    one_written_place();
+}

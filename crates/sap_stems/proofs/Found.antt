@@ -45,7 +45,7 @@ module _ (ds : List LocatedDefinition) where
   through ps e h = record {
     standing = h.standing;
     place = h.place;
-    reached = reaches_use e h.reached;
+    reached = reaches_use e tt h.reached;
     form = h.form;
     nodes = h.nodes;
     bare_is = h.bare_is;

@@ -5,10 +5,6 @@ pub mod Meant
 pub mod Found
 pub mod OneStem
 pub mod WrittenStems
-pub mod Ordered
-pub mod Walked
-pub mod Uses
-pub mod TrailUses
 pub mod MakingLemmas
 pub mod StemLinks
 pub mod StemUses

@@ -1,5 +1,6 @@
 -- Nodes of instances are like the written ones, once those of arguments are put in.
 use Rattle.std.proofs.Common.{◌≡◌, ℕ, suc, Bool, true, false, List, [], ◌∷◌, ◌++◌, length, map, Some, refl, sym, ap, subst}
+use Rattle.std.proofs.lemmas.List.{append-nil, length-map}
 use Rattle.std.specs.Prelude.{if◌then◌else◌}
 use Rattle.std.specs.List.{AllZip}
 use Rattle.std.specs.Str.{bytes_eq}
@@ -20,7 +21,7 @@ use Rattle.sap_nodes.specs.declared.part.Part.{Part}
 use Rattle.sap_nodes.specs.declared.part.Part.TheVariants.{Pattern, Shown, Given}
 use Rattle.sap_stems.specs.Likeness.{IsLike}
 use Rattle.sap_stems.proofs.NodesIn.{NodesPut, node_for, nodes_for, nodes_in, nodes_put, nodes_behind, or_node}
-use Rattle.sap_stems.proofs.Pieces.{join_none, join_zip, map_length}
+use Rattle.sap_stems.proofs.Pieces.{join_zip}
 
 -- the nodes are like these, one by one
 abbrev pub AreLikeNodes : List Node → List Node → Type 0
@@ -40,7 +41,7 @@ module _ (ps : List NodesPut) (r : Choice) (fits : Fits ps r) where
 
   mutual
     pub tree_like : (a b : Part) (t : Tree) → AreLikeNodes (nodes_in ps (tree_nodes a t)) (tree_nodes b (instance r t))
-    tree_like a b (tree.variable v) = subst (λ (ns : List Node). AreLikeNodes ns (tree_nodes b (r v))) (sym (join_none (node_for ps (variable v)))) (fits b v)
+    tree_like a b (tree.variable v) = subst (λ (ns : List Node). AreLikeNodes ns (tree_nodes b (r v))) (sym (append-nil (node_for ps (variable v)))) (fits b v)
     tree_like a b (tree.public n) = (refl, tt)
     tree_like a b (tree.fresh k) = (refl, tt)
     tree_like a b (tree.apply f ts) = ((refl, same_count ts), trees_like a b ts)
@@ -55,7 +56,7 @@ module _ (ps : List NodesPut) (r : Choice) (fits : Fits ps r) where
 
   fact_like : (a : Part) (f : Fact) → AreLikeNodes (nodes_in ps (fact_nodes a f)) (fact_nodes a (instance_fact r f))
   fact_like a f = (
-    (refl, refl, refl, sym (map_length (instance r) f.args)),
+    (refl, refl, refl, sym (length-map f.args (instance r))),
     subst (λ (us : Trees). AreLikeNodes (nodes_in ps (trees_nodes a (trees_of f.args))) (trees_nodes a us)) (same_trees f.args) (trees_like a a (trees_of f.args)),
   )
 

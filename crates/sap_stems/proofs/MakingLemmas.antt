@@ -12,7 +12,7 @@ use Rattle.sap_stems.specs.code.Makings.{after_term, all_put, behind_put, made, 
 use Rattle.sap_stems.specs.declared.making.Making.{Making}
 use Rattle.sap_stems.specs.declared.making.Put.{Put}
 use Rattle.sap_stems.specs.declared.making.WrittenNode.{WrittenNode}
-use Rattle.sap_stems.specs.declared.trail.Use.{Use}
+use Rattle.sap_origin.specs.declared.trail.Use.{Use}
 use Rattle.sap_macro.specs.declared.definition.Definition.{Definition}
 
 pub made_append : (ps : List Put) (m : Making) (ns ks : List Node) → made_all ps m (ns ++ ks) ≡ made_all ps (made_all ps m ns) ks

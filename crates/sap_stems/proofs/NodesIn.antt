@@ -1,5 +1,6 @@
 -- What stands for parameters, whatever the words are.
 use Rattle.std.proofs.Common.{◌≡◌, ℕ, suc, ◌+◌, Bool, true, false, List, [], ◌∷◌, ◌++◌, map, Option, Some, None, refl, ap, ◌∙◌}
+use Rattle.std.proofs.lemmas.List.{map-append}
 use Rattle.std.specs.Prelude.{if◌then◌else◌}
 use Rattle.std.specs.List.{flat_map}
 use Rattle.std.specs.Str.{bytes_eq}
@@ -9,7 +10,6 @@ use Rattle.sap_nodes.specs.HeadNodes.{Node, binder, variable, public, fresh, sym
 use Rattle.sap_nodes.specs.declared.part.Part.TheVariants.{Given}
 use Rattle.sap_origin.specs.Reached.{Standing}
 use Rattle.sap_stems.specs.Stems.{Stem, Put, put_for, or_itself, stems_for, put_in, stems_from, puts_of, behind_use}
-use Rattle.sap_stems.proofs.Pieces.{map_join}
 
 -- the nodes that stand for a parameter
 pub record NodesPut : Type 0 where
@@ -81,7 +81,7 @@ bare_stem ps s (fact a f) e = ap (λ (n : Node). n ∷ []) e
 pub bare_in : (ps : List Put) (ss : List Stem) → map node_of (put_in ps ss) ≡ nodes_in (bare ps) (map node_of ss)
 bare_in ps [] = refl
 bare_in ps (s ∷ ss) =
-    map_join node_of (stems_for ps s s.node) (put_in ps ss)
+    map-append node_of (stems_for ps s s.node) (put_in ps ss)
     ∙ ap (λ (ns : List Node). ns ++ map node_of (put_in ps ss)) (bare_stem ps s s.node refl)
     ∙ ap (λ (ns : List Node). node_for (bare ps) s.node ++ ns) (bare_in ps ss)
 

@@ -24,9 +24,9 @@ module _ (ds : List LocatedDefinition) where
   same_end : {s z w : Standing} {p q r : Located} {path : List ℕ} (ps us : List Put) (m : Reaches ds s p path z q) (n : Reaches ds s p path w r) → puts_along n ps ≡ us
       → IsSame z w q r (puts_along m ps) us
   same_end ps us (reaches_here f) (reaches_here g) b = record { standing = refl; place = refl; puts = b }
-  same_end ps us (reaches_here f) (reaches_use e n) b = absurd f
-  same_end ps us (reaches_use e m) (reaches_here f) b = absurd f
-  same_end ps us (reaches_use {s = s} {k = k} {f = f} {ts = ts} {d = d} {path = path} e m) (reaches_use {z = w} {d = c} {q = r} g n) b =
+  same_end ps us (reaches_here f) (reaches_use e every n) b = absurd f
+  same_end ps us (reaches_use e every m) (reaches_here f) b = absurd f
+  same_end ps us (reaches_use {s = s} {k = k} {f = f} {ts = ts} {d = d} {path = path} e every m) (reaches_use {z = w} {d = c} {q = r} g too n) b =
       let there : Coming (entered s k d) d.body path w r (behind_use s (call_at k f ts) ps d.params ts) us =
       subst (λ (x : LocatedDefinition). Coming (entered s k x) x.body path w r (behind_use s (call_at k f ts) ps x.params ts) us) (some_is (sym g ∙ e)) (record { reaches = n; puts = b }) in
       same_end (behind_use s (call_at k f ts) ps d.params ts) us m there.reaches there.puts

@@ -1,5 +1,6 @@
 -- What the code makes of written nodes is what stands for them.
 use Rattle.std.proofs.Common.{◌≡◌, ℕ, zero, suc, ◌+◌, ◌-◌, ◌^◌, min, Bool, true, false, List, [], ◌∷◌, ◌++◌, length, Option, Some, None, refl, sym, ap, ◌∙◌, subst, arith}
+use Rattle.std.proofs.lemmas.Slice.Zip.{AllZip-long}
 use Rattle.std.specs.Prelude.{if◌then◌else◌, slice_get}
 use Rattle.std.specs.List.{AllZip}
 use Rattle.std.specs.Str.{bytes_eq}
@@ -15,16 +16,16 @@ use Rattle.sap_stems.specs.StemOf.{IsNodeOf, IsSome, IsStemAt}
 use Rattle.sap_stems.specs.Stems.{Stem, put_for, stems_for, or_itself, put_in, stems_from, own_stems, puts_of, behind_use}
 use Rattle.sap_stems.specs.Stems as stems
 use Rattle.sap_stems.specs.StemsAt.{arguments, puts_by}
-use Rattle.sap_stems.specs.Trails.{AreUses, IsTrail, IsUse}
-use Rattle.sap_stems.specs.UsesAlong.{UseAt, uses_along}
+use Rattle.sap_origin.specs.Trails.{AreUses, IsTrail, IsUse}
+use Rattle.sap_origin.specs.UsesAlong.{UseAt, uses_along}
 use Rattle.sap_stems.specs.WrittenNodes.{written_nodes}
 use Rattle.sap_stems.specs.code.Makings.{added_or, all_put, behind_put, from_node, made, made_all, next_node, node_at, nodes_put, params_at, placed, puts_made}
 use Rattle.sap_stems.specs.declared.making.Making.{Making}
 use Rattle.sap_stems.specs.declared.making.Put as made_put
 use Rattle.sap_stems.specs.declared.making.WrittenNode.{WrittenNode}
-use Rattle.sap_stems.specs.declared.trail.Trail.{Trail}
-use Rattle.sap_stems.specs.declared.trail.Use.{Use}
-use Rattle.sap_stems.proofs.Pieces.{join_zip, zip_length}
+use Rattle.sap_origin.specs.declared.trail.Trail.{Trail}
+use Rattle.sap_origin.specs.declared.trail.Use.{Use}
+use Rattle.sap_stems.proofs.Pieces.{join_zip}
 use Rattle.sap_stems.proofs.WrittenStems.{tree_length}
 
 -- they are these written nodes, one by one
@@ -149,7 +150,7 @@ record Lengths (n : ℕ) (z : Standing) (us : List UseAt) : Type 0 where
 
 lengths : (ds : List LocatedDefinition) {s z : Standing} {p q : Located} {path : List ℕ} (n : ℕ) → n ≡ length s.uses → (r : Reaches ds s p path z q) → Lengths n z (uses_along r)
 lengths ds {s = s} n e (reaches_here f) = let is : length s.uses ≡ n + 0 = omega (arith, e) in record { below = tt; all = is }
-lengths ds {z = z} n e (reaches_use {s = s} g r) =
+lengths ds {z = z} n e (reaches_use {s = s} g every r) =
     let one : n + 1 ≡ suc (length s.uses) = omega (arith, e) in
     let rest = lengths ds (n + 1) one r in
     let all = rest.all in
@@ -207,7 +208,7 @@ module _ (defs : List code.Definition) (ns : List ℕ) where
       let counted = lengths ds 0 refl h.reaches in
       let puts = puts_by us [] in
       let same : ArePuts puts (all_put defs [] 0 t.uses) = all_are [] [] tt 0 us t.uses counted.below h.uses in
-      let as_many = zip_length (IsUse ds) us t.uses h.uses in
+      let as_many = sym (AllZip-long (IsUse ds) us t.uses h.uses) in
       let all = counted.all in
       let w : WrittenNode = record { source = t.source; index = 0; behind = t.behind; uses = length t.uses } in
       let from : IsFrom z place 0 w = record { place_is = refl; index_is = refl; behind_is = h.behind_is; uses_are = (let is : length t.uses ≡ length z.uses = omega (arith, all, as_many) in is) } in

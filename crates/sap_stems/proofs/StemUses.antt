@@ -85,7 +85,7 @@ all_behind s q ps (x ∷ xs) ts a = all_put s q ps (x ∷ xs) 0 ts a
 
 all_along : (ds : List LocatedDefinition) {s z : Standing} {q r : Located} {path : List ℕ} (ps : List Put) (m : Reaches ds s q path z r) → ArePut s.uses ps → ArePut z.uses (puts_along m ps)
 all_along ds ps (reaches_here f) a = a
-all_along ds ps (reaches_use {s = s} {k = k} {f = f} {ts = ts} {d = d} e m) a =
+all_along ds ps (reaches_use {s = s} {k = k} {f = f} {ts = ts} {d = d} e every m) a =
     all_along ds (behind_use s (call_at k f ts) ps d.params ts) m (more_put s.uses (k + s.behind) (behind_use s (call_at k f ts) ps d.params ts) (all_behind s (call_at k f ts) ps d.params ts a))
 all_along ds ps (reaches_left m) a = all_along ds ps m a
 all_along ds ps (reaches_right m) a = all_along ds ps m a

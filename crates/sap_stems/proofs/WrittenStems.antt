@@ -11,7 +11,8 @@ use Rattle.sap_nodes.specs.declared.part.Part.{Part}
 use Rattle.sap_nodes.specs.declared.part.Part.TheVariants.{Given}
 use Rattle.sap_origin.specs.Definitions.{LocatedDefinition}
 use Rattle.sap_origin.specs.Meant.{definition_of}
-use Rattle.sap_origin.specs.Reached.{Standing, Reaches, reaches_here, reaches_use, reaches_left, reaches_right, reaches_copy, reaches_behind, reaches_then, reaches_else, reaches_found, reaches_missing}
+use Rattle.sap_origin.specs.Reached.{Standing, Reaches, ReachesBy, reaches_here, reaches_use, reaches_left, reaches_right, reaches_copy, reaches_behind, reaches_then, reaches_else, reaches_found, reaches_missing}
+use Rattle.sap_origin.specs.declared.trail.Replaced.{Replaced}
 use Rattle.sap_stems.specs.Stems.{Stem, Put, put_for, or_itself, stems_for, put_in, stems_from, puts_of, behind_use}
 use Rattle.sap_stems.specs.StemsAt.{AreStems, puts_along}
 use Rattle.sap_stems.specs.WrittenNodes.{written_nodes}
@@ -81,6 +82,19 @@ module _ (ds : List LocatedDefinition) (p : Located) (behind : ℕ) where
   deeper : {n : ℕ} {x q : Located} → IsPlaceIn x q → IsOf n q → IsOf n x
   deeper a (of_process b) = of_process (inside a b)
   deeper a (of_definition c b) = of_definition c (inside a b)
+
+  -- to a place of these one comes along each path
+  pub place_along : (v : Replaced) {s z : Standing} {q r : Located} {path : List ℕ} → ReachesBy ds v s q path z r → IsOf s.behind q → IsOf z.behind r
+  place_along v (reaches_here f) place = place
+  place_along v (reaches_use {f = f} {d = d} e g m) place = place_along v m (of_definition (among ds f d e) place_itself)
+  place_along v (reaches_left m) place = place_along v m (deeper (place_left place_itself) place)
+  place_along v (reaches_right m) place = place_along v m (deeper (place_right place_itself) place)
+  place_along v (reaches_copy m) place = place_along v m (deeper (place_copy place_itself) place)
+  place_along v (reaches_behind m) place = place_along v m (deeper (place_behind place_itself) place)
+  place_along v (reaches_then m) place = place_along v m (deeper (place_then place_itself) place)
+  place_along v (reaches_else m) place = place_along v m (deeper (place_else place_itself) place)
+  place_along v (reaches_found m) place = place_along v m (deeper (place_found place_itself) place)
+  place_along v (reaches_missing m) place = place_along v m (deeper (place_missing place_itself) place)
 
   -- all of these are
   abbrev AreAll : List Stem → Type 0
@@ -155,7 +169,7 @@ module _ (ds : List LocatedDefinition) (p : Located) (behind : ℕ) where
 
   all_along : {s z : Standing} {q r : Located} {path : List ℕ} (ps : List Put) (m : Reaches ds s q path z r) → IsOf s.behind q → ArePut ps → IsOf z.behind r × ArePut (puts_along m ps)
   all_along ps (reaches_here f) place a = (place, a)
-  all_along ps (reaches_use {s = s} {k = k} {f = f} {ts = ts} {d = d} e m) place a =
+  all_along ps (reaches_use {s = s} {k = k} {f = f} {ts = ts} {d = d} e every m) place a =
       all_along (behind_use s (call_at k f ts) ps d.params ts) m (of_definition (among ds f d e) place_itself) (all_behind s k f ps d.params ts place a)
   all_along ps (reaches_left m) place a = all_along ps m (deeper (place_left place_itself) place) a
   all_along ps (reaches_right m) place a = all_along ps m (deeper (place_right place_itself) place) a

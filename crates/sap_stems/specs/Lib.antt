@@ -1,8 +1,6 @@
 pub mod WrittenNodes
 pub mod Stems
-pub mod UsesAlong
 pub mod StemsAt
-pub mod Trails
 pub mod StemOf
 pub mod WrittenPlaces
 pub mod Likeness

@@ -6,7 +6,7 @@ use Rattle.sap_origin.specs.Definitions.{LocatedDefinition}
 use Rattle.sap_origin.specs.Origins.{start}
 use Rattle.sap_origin.specs.Reached.{Reaches, Standing}
 use Rattle.sap_stems.specs.Stems.{Stem, Put, put_in, own_stems, behind_use}
-use Rattle.sap_stems.specs.UsesAlong.{UseAt, uses_along}
+use Rattle.sap_origin.specs.UsesAlong.{UseAt, uses_along}
 
 -- the arguments of a use
 abbrev pub arguments : Located → List Tree

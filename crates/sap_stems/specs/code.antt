@@ -1,3 +1,2 @@
 -- What the code does, step by step: no public contract cites what stands below.
-pub mod Steps
 pub mod Makings

@@ -1,5 +1,5 @@
 //! Laws of stems, as contracts of functions that do nothing.
-ghost use Rattle.std.specs.Prelude.{◌≡◌, ◌↔◌, ℕ, List, [], ◌∷◌, ◌++◌, None, Some, codes, length, map, reverse, slice_get};
+ghost use Rattle.std.specs.Prelude.{◌≡◌, ◌↔◌, ℕ, List, [], ◌∷◌, ◌++◌, None, Some, codes, length, map, slice_get};
 ghost use Rattle.sap_terms.specs.declared.var.Sort.TheVariants.{Fresh, Msg};
 ghost use Rattle.sap_process.specs.Proc.{Proc};
 ghost use Rattle.sap_macro.specs.Expansion.{expansion};
@@ -10,14 +10,15 @@ ghost use Rattle.sap_macro.specs.UpToNames.{named};
 ghost use Rattle.sap_nodes.specs.HeadNodes.{binder, fresh, head_nodes, public, symbol, variable};
 ghost use Rattle.sap_nodes.specs.declared.part.Part.TheVariants.{Given, Pattern};
 ghost use Rattle.sap_origin.specs.Definitions.{LocatedDefinition, plain_definition};
-ghost use Rattle.sap_origin.specs.Reached.{Reaches, Standing, process_at};
+ghost use Rattle.sap_origin.specs.Origins.{start};
+ghost use Rattle.sap_origin.specs.Reached.{ReachesBy, Standing, process_at};
+ghost use Rattle.sap_origin.specs.declared.trail.Replaced.{Replaced};
 ghost use Rattle.sap_stems.specs.Examples.{IsWritten, StemsFrom, chain_defs, chain_inner, chain_use, plain_defs, plain_inner, twice, twice_defs, twice_inner, twice_left, twice_right, two, two_defs, two_inner, two_use, with_a};
 ghost use Rattle.sap_stems.specs.Likeness.{AreLike, IsLike};
 ghost use Rattle.sap_stems.specs.StemOf.{IsStemAt};
 ghost use Rattle.sap_stems.specs.Stems.{Stem};
 ghost use Rattle.sap_stems.specs.StemsAt.{AreStems};
-ghost use Rattle.sap_stems.specs.UsesAlong.{uses_along, word_of};
-ghost use Rattle.sap_stems.specs.WrittenPlaces.{IsWrittenNode};
+ghost use Rattle.sap_stems.specs.WrittenPlaces.{IsPlaceOf, IsWrittenNode};
 ghost use Rattle.sap_stems.specs.declared.making.WrittenNode.{WrittenNode};
 
 use sap_macro::plain_names_stand_for_bodies;
@@ -81,6 +82,13 @@ pub fn stems_by_hand()
     ensures no_argument_of_another { (i : ℕ) (us : List ℕ) → StemsFrom chain_defs with_a [] 3 with_a i us → ⊥ }
 {}
 
+/// A law: the place to which one comes along a path, whichever names are replaced, is one of the process, or of a definition's body, behind
+/// whose item as many words of the file are as where one stands.
+pub fn ways_lead_to_written_places()
+    ensures { (ds : List LocatedDefinition) (v : Replaced) (p q : Located) (behind : ℕ) (path : List ℕ)
+        (z : Standing) → ReachesBy ds v (start behind) p path z q → IsPlaceOf ds p behind z.behind q }
+{}
+
 /// A law: in small files how the program has the written node from which one stems: below no use, below one and below two, each in its own
 /// item; of a node that isn't there it has none, and of one that is it has one.
 pub fn written_nodes_by_hand()
@@ -90,12 +98,6 @@ pub fn written_nodes_by_hand()
     ensures behind { (w : WrittenNode) → IsStemAt two_defs two 1 (1 ∷ []) 1 (Some w) ↔ IsWritten w two_use 3 1 0 }
     ensures none { IsStemAt two_defs two 1 (1 ∷ []) 2 None × ((w : WrittenNode) → IsStemAt two_defs two 1 (1 ∷ []) 2 (Some w) → ⊥) }
     ensures not_none { IsStemAt two_defs two 1 (1 ∷ []) 1 None → ⊥ }
-{}
-
-/// A law: the uses through which one comes along a path are those above the place, which has the innermost first, each by its name.
-pub fn trails_are_uses()
-    ensures { (ds : List LocatedDefinition) (s z : Standing) (p q : Located) (path : List ℕ)
-        (r : Reaches ds s p path z q) → z.uses ≡ reverse (map word_of (uses_along r)) ++ s.uses }
 {}
 
 /// A law: of small nodes which are like one another, whatever their part and a variable's name, and which aren't: with another symbol, on

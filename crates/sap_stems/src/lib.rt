@@ -4,11 +4,10 @@
 mod laws;
 mod making;
 mod stem;
-mod trail;
 
 pub use laws::{
-    likeness_by_hand, nodes_have_stems, stems_by_hand, trails_are_uses, written_nodes_by_hand,
+    likeness_by_hand, nodes_have_stems, stems_by_hand, ways_lead_to_written_places,
+    written_nodes_by_hand,
 };
 pub use making::WrittenNode;
 pub use stem::stem_in;
-pub use trail::{Trail, Use, trail_of};

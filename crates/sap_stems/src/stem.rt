@@ -6,13 +6,13 @@ ghost use Rattle.sap_macro.specs.Sources.{located};
 ghost use Rattle.sap_origin.specs.Definitions.{located_definitions};
 ghost use Rattle.sap_stems.specs.StemOf.{IsStemAt};
 ghost use Rattle.sap_stems.specs.StemsAt.{arguments};
-ghost use Rattle.sap_stems.specs.Trails.{IsTrail};
+ghost use Rattle.sap_origin.specs.Trails.{IsTrail};
 ghost use Rattle.sap_stems.specs.code.Makings.{after_term, all_put, behind_put, params_at, put_made, puts_made};
 
 use crate::making::{Making, Put, WrittenNode, in_head, in_term};
-use crate::trail::{Trail, Use};
 use sap_macro::{DefinitionList, Source};
 use sap_nodes::Part;
+use sap_origin::{Trail, Use};
 use sap_terms::{Copied, Items, Mem, Name, NameList, Term, TermList};
 use std::alloc::Global;
 

@@ -1,5 +1,5 @@
 -- The name of a definition leads to what its body leads to, where each name leads to what it does behind all definitions.
-use Rattle.std.proofs.Common.{◌≡◌, ℕ, zero, suc, ◌+◌, true, false, List, [], ◌∷◌, ◌++◌, map, Some, refl, sym, ap, ◌∙◌, subst}
+use Rattle.std.proofs.Common.{◌≡◌, ℕ, zero, suc, true, false, List, [], ◌∷◌, ◌++◌, map, Some, refl, sym, ap, ◌∙◌, subst}
 use Rattle.std.specs.Prelude.{if◌then◌else◌, slice_get}
 use Rattle.sap_terms.specs.Choice.{Choice, instance}
 use Rattle.sap_terms.specs.Tree.{Tree}
@@ -8,8 +8,7 @@ use Rattle.sap_macro.specs.Expansion.{put, unchanged}
 use Rattle.sap_macro.specs.Indexed.{defined}
 use Rattle.sap_macro.specs.Located.{Located, nil_at, call_at, parallel_at, replicated_at, act_at, test_at, lookup_at, without_numbers}
 use Rattle.sap_macro.specs.Order.{AreInOrder, UsesOnly}
-use Rattle.sap_macro.specs.Walked.{Cost, cost_after, cost_of, steps, with_cost}
-use Rattle.sap_macro.specs.Written.{Written, nil, call, parallel, replicated, act, test, lookup, Definition}
+use Rattle.sap_macro.specs.Written.{Definition}
 use Rattle.sap_origin.specs.Definitions.{LocatedDefinition, plain_definition}
 use Rattle.sap_origin.specs.Reached.{Standing, entered}
 use Rattle.sap_use_words.specs.ExpandedUses.{Led, led_after, led_by, none_led, uses_in, with_led}
@@ -24,12 +23,6 @@ led_stays [] m f s r k ts h = refl
 led_stays (d ∷ ds) m f s r k ts h =
     let other = not_in f d.name (defined (map plain_definition ds)) h in
     led_stays ds (with_led m d) f s r k ts other.1 ∙ ap (λ b. if b then led_by m d d.params s r k ts else m s r k f ts) other.0
-
-cost_stays : (es : List Definition) (c : Cost) (f : List ℕ) → is_known (defined es) f ≡ false → cost_after c es f ≡ c f
-cost_stays [] c f h = refl
-cost_stays (e ∷ es) c f h =
-    let other = not_in f e.name (defined es) h in
-    cost_stays es (with_cost c e) f other.1 ∙ ap (λ b. if b then steps c e.body else c f) other.0
 
 -- names that are defined before aren't defined again
 apart_from : (es : List Definition) (known : List (List ℕ)) → AreInOrder known es → (f : List ℕ) → is_known known f ≡ true → is_known (defined es) f ≡ false
@@ -56,15 +49,6 @@ by_agree known d [] m n s r k ts h e = led_agree known d.body m n (entered s k d
 by_agree known d (x ∷ xs) m n s r k ts h e =
     ap (λ (us : List LocatedUse). use_at s k d.name (map (instance r) ts) ∷ us) (led_agree known d.body m n (entered s k d) (put d.params (map (instance r) ts) unchanged) h e)
 
-steps_agree : (known : List (List ℕ)) (w : Written) (c d : Cost) → UsesOnly known w → ((f : List ℕ) → is_known known f ≡ true → c f ≡ d f) → steps c w ≡ steps d w
-steps_agree known nil c d h e = refl
-steps_agree known (call f ts) c d h e = ap (λ n. n + 1) (e f h)
-steps_agree known (parallel p q) c d h e = λ i. steps_agree known p c d h.0 e i + steps_agree known q c d h.1 e i + 1
-steps_agree known (replicated p) c d h e = ap (λ n. n + 1) (steps_agree known p c d h e)
-steps_agree known (act a p) c d h e = ap (λ n. n + 1) (steps_agree known p c d h e)
-steps_agree known (test t u p q) c d h e = λ i. steps_agree known p c d h.0 e i + steps_agree known q c d h.1 e i + 1
-steps_agree known (lookup t x p q) c d h e = λ i. steps_agree known p c d h.0 e i + steps_agree known q c d h.1 e i + 1
-
 -- ---- the first of some definitions, and each
 
 led_here : (known : List (List ℕ)) (m : Led) (d : LocatedDefinition) (ds : List LocatedDefinition) → AreInOrder known (map plain_definition (d ∷ ds)) → (s : Standing) (r : Choice) (k : ℕ)
@@ -83,20 +67,6 @@ led_at (d ∷ ds) known m h zero e is s r k ts =
     subst (λ (z : LocatedDefinition). led_after m (d ∷ ds) s r k z.name ts ≡ led_by (led_after m (d ∷ ds)) z z.params s r k ts) same (led_here known m d ds h s r k ts)
 led_at (d ∷ ds) known m h (suc j) e is s r k ts = led_at ds (d.name ∷ known) (with_led m d) h.1.1 j e is s r k ts
 
-cost_here : (known : List (List ℕ)) (c : Cost) (d : Definition) (es : List Definition) → AreInOrder known (d ∷ es) → cost_after c (d ∷ es) d.name ≡ steps (cost_after c (d ∷ es)) d.body
-cost_here known c d es h =
-    cost_stays es (with_cost c d) d.name (apart_from es (d.name ∷ known) h.1.1 d.name (in_head d.name known))
-    ∙ ap (λ b. if b then steps c d.body else c d.name) (own_name d.name)
-    ∙ steps_agree known d.body c (cost_after c (d ∷ es)) h.1.0 (λ f y. sym (cost_stays (d ∷ es) c f (apart_from (d ∷ es) known h f y)))
-
-cost_at : (es : List Definition) (known : List (List ℕ)) (c : Cost) → AreInOrder known es → (j : ℕ) (e : Definition) → slice_get es j ≡ Some e
-    → cost_after c es e.name ≡ steps (cost_after c es) e.body
-cost_at [] known c h j e is = absurd (cc (is))
-cost_at (d ∷ es) known c h zero e is =
-    let same : d ≡ e = cc (is) in
-    subst (λ (z : Definition). cost_after c (d ∷ es) z.name ≡ steps (cost_after c (d ∷ es)) z.body) same (cost_here known c d es h)
-cost_at (d ∷ es) known c h (suc j) e is = cost_at es (d.name ∷ known) (with_cost c d) h.1.1 j e is
-
 -- behind all of them
 pub led_defined : (ds : List LocatedDefinition) → AreInOrder [] (map plain_definition ds) → (j : ℕ) (e : LocatedDefinition) → slice_get ds j ≡ Some e
     → (s : Standing) (r : Choice) (k : ℕ) (ts : List Tree) → led_after none_led ds s r k e.name ts ≡ led_by (led_after none_led ds) e e.params s r k ts
@@ -105,6 +75,3 @@ led_defined ds h j e is = led_at ds [] none_led h j e is
 pub led_unknown : (ds : List LocatedDefinition) (f : List ℕ) → is_known (defined (map plain_definition ds)) f ≡ false
     → (s : Standing) (r : Choice) (k : ℕ) (ts : List Tree) → led_after none_led ds s r k f ts ≡ []
 led_unknown ds f h s r k ts = led_stays ds none_led f s r k ts h
-
-pub cost_defined : (es : List Definition) → AreInOrder [] es → (j : ℕ) (e : Definition) → slice_get es j ≡ Some e → cost_of es e.name ≡ steps (cost_of es) e.body
-cost_defined es h j e is = cost_at es [] (λ f. 0) h j e is

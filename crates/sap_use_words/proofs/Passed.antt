@@ -1,5 +1,5 @@
 -- Through each use of an expansion one comes to a place.
-use Rattle.std.proofs.Common.{◌≡◌, ℕ, zero, suc, ◌+◌, true, false, List, [], ◌∷◌, ◌++◌, ◌⊎◌, inl, inr, map, Some, append_assoc, refl, sym, ap, ◌∙◌, subst, ⊎_elim, arith}
+use Rattle.std.proofs.Common.{◌≡◌, ℕ, suc, ◌+◌, true, false, List, [], ◌∷◌, ◌++◌, ◌⊎◌, inl, inr, map, Some, append_assoc, refl, sym, ap, ◌∙◌, subst, ⊎_elim, arith}
 use Rattle.std.proofs.lemmas.Bool.{cases_Bool, false≢true}
 use Rattle.std.proofs.lemmas.List.Elements.{Contains-append_cases, Contains-push_cases}
 use Rattle.std.specs.Prelude.{if◌then◌else◌, Contains, slice_get}
@@ -17,7 +17,7 @@ use Rattle.sap_origin.specs.Reached.{Reaches, Standing, entered, reaches_here, r
 use Rattle.sap_use_words.specs.ExpandedUses.{Led, expanded_uses, led_after, led_by, none_led, uses_in, with_led}
 use Rattle.sap_use_words.specs.Passing.{IsPassed}
 use Rattle.sap_use_words.specs.WrittenUses.{LocatedUse, use_at}
-use Rattle.sap_terms.proofs.PlainLaws.Known.{one_name, own_name, in_cases, not_in}
+use Rattle.sap_terms.proofs.PlainLaws.Known.{one_name, in_cases}
 
 none_in : {X : Type 0} (x : X) → Contains [] x → ⊥
 none_in x h = let less = h.1 in omega (arith, less)
@@ -29,23 +29,9 @@ first_or {X} y xs x h = ⊎_elim (λ c. inl (only (Contains-push_cases [] y x c)
     only (inl c) = absurd (none_in x c)
     only (inr e) = e
 
--- ---- definitions in order stand for their names
-
-new_behind : (known : List (List ℕ)) (ds : List LocatedDefinition) (k : ℕ) (d : LocatedDefinition) → AreInOrder known (map plain_definition ds) → slice_get ds k ≡ Some d
-    → is_known known d.name ≡ false
-new_behind known [] k d order e = absurd (cc (e))
-new_behind known (c ∷ ds) zero d order e = let is : c ≡ d = cc (e) in subst (λ (a : LocatedDefinition). is_known known a.name ≡ false) is order.0
-new_behind known (c ∷ ds) (suc k) d order e = (not_in d.name c.name known (new_behind (c.name ∷ known) ds k d order.1.1 e)).1
-
-stands : (known : List (List ℕ)) (ds : List LocatedDefinition) (k : ℕ) (d : LocatedDefinition) → AreInOrder known (map plain_definition ds) → slice_get ds k ≡ Some d
-    → definition_of ds d.name ≡ Some d
-stands known [] k d order e = absurd (cc (e))
-stands known (c ∷ ds) zero d order e =
-    let is : c ≡ d = cc (e) in
-    subst (λ (a : LocatedDefinition). definition_of (c ∷ ds) a.name ≡ Some a) is (ap (λ b. if b then Some c else definition_of ds c.name) (own_name c.name))
-stands known (c ∷ ds) (suc k) d order e =
-    let other = (not_in d.name c.name known (new_behind (c.name ∷ known) ds k d order.1.1 e)).0 in
-    ap (λ b. if b then Some c else definition_of ds d.name) other ∙ stands (c.name ∷ known) ds k d order.1.1 e
+-- what the law of definitions in order says: each name stands for its definition
+abbrev pub NamesStand : Type 0
+NamesStand = (ds : List LocatedDefinition) (k : ℕ) (d : LocatedDefinition) → AreInOrder [] (map plain_definition ds) → slice_get ds k ≡ Some d → definition_of ds d.name ≡ Some d
 
 -- ---- through uses to places
 
@@ -111,7 +97,7 @@ module _ (all : List LocatedDefinition) where
           standing = below.standing;
           place = below.place;
           inner = below.inner ++ (k + s.behind) ∷ [];
-          reaches = reaches_use (stands_for f e) below.reaches;
+          reaches = reaches_use (stands_for f e) tt below.reaches;
           uses_are = below.uses_are ∙ sym (append_assoc below.inner ((k + s.behind) ∷ []) s.uses);
         }
 
@@ -120,12 +106,12 @@ module _ (all : List LocatedDefinition) where
 
     into : (s : Standing) (k : ℕ) (f : List ℕ) (ts : List Tree) (u : LocatedUse) → d.name ≡ f → IsPassed all (entered s k d) d.body u → IsPassed all s (call_at k f ts) u
     into s k f ts u e p =
-        record { path = p.path; standing = p.standing; place = p.place; inner = p.inner; reaches = reaches_use (stands_for f e) p.reaches; uses_are = p.uses_are }
+        record { path = p.path; standing = p.standing; place = p.place; inner = p.inner; reaches = reaches_use (stands_for f e) tt p.reaches; uses_are = p.uses_are }
 
     itself : (s : Standing) (k : ℕ) (f : List ℕ) (ts : List Tree) (us : List Tree) → d.name ≡ f → IsPassed all s (call_at k f ts) (use_at s k d.name us)
     itself s k f ts us e =
         let below = goes_in known g (entered s k d) d.body only in
-        record { path = below.path; standing = below.standing; place = below.place; inner = below.inner; reaches = reaches_use (stands_for f e) below.reaches; uses_are = below.uses_are }
+        record { path = below.path; standing = below.standing; place = below.place; inner = below.inner; reaches = reaches_use (stands_for f e) tt below.reaches; uses_are = below.uses_are }
 
     by_params : (xs : List (List ℕ)) (s : Standing) (r : Choice) (k : ℕ) (f : List ℕ) (ts : List Tree) (u : LocatedUse) → d.name ≡ f → Contains (led_by m d xs s r k ts) u
         → IsPassed all s (call_at k f ts) u
@@ -150,8 +136,8 @@ module _ (all : List LocatedDefinition) where
       passed_after ds (d.name ∷ known) (with_led m d) order.1.1 (λ k e at. is (suc k) e at) (goes_more known m d (is 0 d refl) order.1.0 g h)
       (passed_more known m d (is 0 d refl) order.1.0 g h)
 
-pub each_passed : (ds : List LocatedDefinition) (n : ℕ) (p : Located) (u : LocatedUse) → AreInOrder [] (map plain_definition ds) → Contains (expanded_uses ds n p) u
+pub each_passed : NamesStand → (ds : List LocatedDefinition) (n : ℕ) (p : Located) (u : LocatedUse) → AreInOrder [] (map plain_definition ds) → Contains (expanded_uses ds n p) u
     → IsPassed ds (start n) p u
-each_passed ds n p u order c =
+each_passed stand ds n p u order c =
     passed_in ds (led_after none_led ds)
-    (passed_after ds ds [] none_led order (λ k d at. stands [] ds k d order at) (λ s k f ts y. absurd (false≢true y)) (λ s r k f ts v y. absurd (none_in v y))) (start n) unchanged p u c
+    (passed_after ds ds [] none_led order (λ k d at. stand ds k d order at) (λ s k f ts y. absurd (false≢true y)) (λ s r k f ts v y. absurd (none_in v y))) (start n) unchanged p u c

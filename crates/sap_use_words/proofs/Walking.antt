@@ -17,7 +17,7 @@ use Rattle.sap_macro.specs.Walked.{Cost, cost_of, steps, steps_in}
 use Rattle.sap_macro.specs.Written.{Written, nil, call, parallel, replicated, act, test, lookup, Definition}
 use Rattle.sap_macro.specs.declared.definition.Definition as code
 use Rattle.sap_macro.specs.declared.source.Source.{Source}
-use Rattle.sap_origin.specs.Definitions.{LocatedDefinition, plain_definition}
+use Rattle.sap_origin.specs.Definitions.{LocatedDefinition, plain_definition, with_words}
 use Rattle.sap_origin.specs.Origins.{words_left}
 use Rattle.sap_origin.specs.Reached.{Standing, entered}
 use Rattle.sap_origin.specs.declared.origin.FileWord.{FileWord}
@@ -33,7 +33,6 @@ use Rattle.sap_use_words.specs.declared.met.Here.{Here}
 use Rattle.sap_use_words.specs.declared.met.Met.{Met}
 use Rattle.sap_use_words.specs.declared.met.Met.TheVariants.{Nothing, Use, One, Two}
 use Rattle.sap_use_words.proofs.Leading.{led_defined, led_unknown}
-use Rattle.sap_use_words.proofs.Located.{with_words}
 use Rattle.sap_use_words.proofs.Named.{large_append}
 
 positive : (c : Cost) (w : Written) → 0 < steps c w

@@ -12,6 +12,8 @@ ghost use Rattle.sap_use_words.specs.ExpandedUses.{expanded_uses, large_use, wor
 ghost use Rattle.sap_use_words.specs.Passing.{IsPassed};
 ghost use Rattle.sap_use_words.specs.WrittenUses.{LocatedUse, other_use, plain_use, written_uses};
 
+use sap_origin::names_stand_for_definitions;
+
 /// A law: uses with their words are, without these, the uses in the bodies in order and then in the process; so the first that has another
 /// number of arguments than its definition has parameters is there exactly where that cause holds, and has the name of which it speaks.
 pub fn written_uses_are_written()
@@ -35,7 +37,9 @@ pub fn large_uses_are_named()
 pub fn uses_are_passed()
     ensures { (ds : List LocatedDefinition) (n : ℕ) (p : Located) (u : LocatedUse) → AreInOrder [] (map plain_definition ds)
         → Contains (expanded_uses ds n p) u → IsPassed ds (start n) p u }
-{}
+{
+    names_stand_for_definitions();
+}
 
 /// A law: in small files the words of uses, with those of the uses above them. With another number of arguments: a use in a body before one
 /// in the process, the first of two, the second where the first is right, and none. Too large: a use in a body by the argument that its

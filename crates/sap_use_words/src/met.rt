@@ -10,8 +10,9 @@ ghost use Rattle.sap_origin.specs.declared.origin.FileWord.{FileWord as Word};
 ghost use Rattle.sap_use_words.specs.code.Walk.{IsFirst, IsMet};
 
 use sap_macro::{Definition, DefinitionList, Index, Source};
-use sap_origin::{FileWord, located_definitions_are_written};
+use sap_origin::{FileWord, located_definitions_are_written, located_definitions_by_number};
 use sap_terms::{Mem, Name, TermList};
+use sap_uses::names_cost_their_bodies;
 
 /// A process, behind whose item so many words of the file are.
 #[derive(Clone, Copy)]
@@ -68,6 +69,8 @@ fn met_name<'a>(
     ensures { (us : List Word) → IsFirst (located_definitions defs.now behind.now) (definitions defs.now) behind_source us source.now result }
 {
     located_definitions_are_written();
+    located_definitions_by_number();
+    names_cost_their_bodies();
     let word = FileWord {
         left,
         behind: behind_source,

@@ -9,7 +9,7 @@ ghost use Rattle.sap_use_words.specs.WrittenUses.{LocatedUse, other_use, uses_at
 ghost use Rattle.sap_use_words.specs.code.Words.{first_word};
 
 use sap_macro::{DefinitionList, Source};
-use sap_origin::{FileWord, located_definitions_are_written};
+use sap_origin::{FileWord, located_definitions_are_written, located_definitions_by_number};
 use sap_terms::{Mem, NameMap};
 use sap_uses::{count, counts_of};
 use std::alloc::Global;
@@ -51,6 +51,7 @@ fn other_word(
     ensures { option_map words_left result ≡ first_word (λ f. unwrap_or (value_at counts.now f) 0)
         (written_uses (located_definitions defs.now behind.now) behind_main (located main.now)) }
 {
+    located_definitions_by_number();
     for k in 0..defs.len() {
         let found = other_in(counts, &defs.at(k).body, behind[k as usize]);
         if let Some(word) = found {

@@ -7,6 +7,7 @@ use Rattle.sap_macro.specs.ExpansionExamples.{a, giving, news, of_name, with_x}
 use Rattle.sap_macro.specs.NameExamples.{both}
 use Rattle.sap_macro.specs.UpToNames.{named}
 use Rattle.sap_macro.specs.Written.{Written, nil, call, Definition}
+use Rattle.sap_macro.specs.declared.sizes.Size.{Size}
 
 -- x and y
 abbrev pub x : Tree
@@ -104,3 +105,11 @@ using_c = with_x (call (codes "C") [])
 -- out('a')
 abbrev pub apart : Written
 apart = giving a
+
+-- x has this size
+abbrev pub x_of : ℕ → List (List ℕ × ℕ)
+x_of n = (codes "x", n) ∷ []
+
+-- eight places on five levels
+abbrev pub eight_and_five : Size
+eight_and_five = record { nodes = 8; levels = 5 }

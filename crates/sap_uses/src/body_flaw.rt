@@ -16,8 +16,8 @@ use sap_process::{Flaw, first_scope_flaw};
 use sap_terms::{Copied, Mem, NameList, Path, Sort, Var, Vars};
 use std::alloc::Global;
 
-// The parameters as variables.
-fn params_of(alloc: Global, params: &NameList) -> Result<Vars, Mem>
+/// The parameters as variables. Want of memory is the only error.
+pub fn params_of(alloc: Global, params: &NameList) -> Result<Vars, Mem>
     ensures { IfOk result (λ vs. vs ≡ map (λ n. named n Msg) params.now) }
 {
     let mut vars = Vars::new(alloc);

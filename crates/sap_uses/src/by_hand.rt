@@ -1,15 +1,20 @@
 //! Causes in small files by hand, as laws.
-ghost use Rattle.std.specs.Prelude.{◌≡◌, ℕ, List, codes, [], ◌∷◌, None, Some};
+ghost use Rattle.std.specs.Prelude.{◌≡◌, ◌-◌, ◌^◌, ℕ, List, codes, [], ◌∷◌, None, Some};
+ghost use Rattle.sap_terms.specs.Choice.{Choice};
 ghost use Rattle.sap_terms.specs.Signature.{Sig};
 ghost use Rattle.sap_terms.specs.declared.var.Sort.TheVariants.{Fresh, Pub};
+ghost use Rattle.sap_process.specs.Proc.{level_count, node_count};
 ghost use Rattle.sap_process.specs.declared.flaw.Flaw.{Flaw};
 ghost use Rattle.sap_process.specs.declared.flaw.Flaw.TheVariants.{Rebound, SortClash, Unbound};
-ghost use Rattle.sap_macro.specs.ExpansionExamples.{a, giving_y, in_first, in_second, pairing, twice_two};
+ghost use Rattle.sap_macro.specs.Expansion.{expansion, put, unchanged};
+ghost use Rattle.sap_macro.specs.ExpansionExamples.{a, giving_y, in_first, in_second, inner, outer, pairing, twice_two};
+ghost use Rattle.sap_macro.specs.KeptSizes.{levels_kept, nodes_kept};
 ghost use Rattle.sap_macro.specs.Written.{call, parallel};
 ghost use Rattle.sap_uses.specs.FaultCauses.{IsMacroCause};
 ghost use Rattle.sap_uses.specs.ScopeFlaws.{IsFirstFlawedBehind};
+ghost use Rattle.sap_uses.specs.Sizes.{HaveSizes, cut, size_in};
 ghost use Rattle.sap_uses.specs.UseCauses.{first_large};
-ghost use Rattle.sap_uses.specs.UseExamples.{apart, beyond, binding_again, empty_one, ladder, most, open_below, open_one, open_other, plain_use, right_one, rung, signing_as, swapping, through_plain, twofold, use_of, using_c, using_open};
+ghost use Rattle.sap_uses.specs.UseExamples.{apart, beyond, binding_again, eight_and_five, empty_one, ladder, most, open_below, open_one, open_other, plain_use, right_one, rung, signing_as, swapping, through_plain, twofold, use_of, using_c, using_open, x_of};
 ghost use Rattle.sap_uses.specs.declared.fault.MacroFault.{MacroFault};
 ghost use Rattle.sap_uses.specs.declared.fault.MacroFault.TheVariants.{Arguments, Flawed, Large, Parameters};
 
@@ -60,4 +65,36 @@ pub fn causes_by_hand()
     ensures large { (g : Sig) → IsMacroCause g (open_one ∷ []) (use_of 0 beyond) (Large (codes "A")) }
     ensures flawed { (g : Sig) → IsMacroCause g (open_one ∷ []) (use_of 0 a) (Flawed (codes "A") Unbound []) }
     ensures right { (g : Sig) (e : MacroFault) → ¬ IsMacroCause g (right_one ∷ []) (use_of 0 a) e }
+{}
+
+/// A law: sizes of names in small tables. A name has the size that is kept of it, one that isn't kept has size 1. Sizes are as they are up to
+/// the greatest u64, and from there on that number. A choice has the sizes where each variable stands for a term of as many nodes, also where
+/// the name isn't kept and the variable stands for itself; it hasn't them where a term has more nodes or fewer, or where it has some that
+/// aren't kept. Sizes beyond the greatest u64 are as good as that.
+pub fn sizes_by_hand()
+    ensures kept { size_in (x_of 3) (codes "x") ≡ 3 }
+    ensures other { size_in (x_of 3) (codes "y") ≡ 1 }
+    ensures below { cut (2 ^ 64 - 2) ≡ 2 ^ 64 - 2 }
+    ensures greatest { cut (2 ^ 64 - 1) ≡ 2 ^ 64 - 1 }
+    ensures beyond { cut (2 ^ 64) ≡ 2 ^ 64 - 1 }
+    ensures not_beyond { ¬ (cut (2 ^ 64) ≡ 2 ^ 64) }
+    ensures have { HaveSizes (put (codes "x" ∷ []) (twofold 1 ∷ []) unchanged) (x_of 3) }
+    ensures themselves { HaveSizes unchanged [] }
+    ensures not_fewer { ¬ HaveSizes (put (codes "x" ∷ []) (twofold 2 ∷ []) unchanged) (x_of 3) }
+    ensures not_more { ¬ HaveSizes unchanged (x_of 3) }
+    ensures not_unkept { ¬ HaveSizes (put (codes "x" ∷ []) (twofold 1 ∷ []) unchanged) [] }
+    ensures as_good { (r : Choice) → HaveSizes r (x_of (2 ^ 64)) → HaveSizes r (x_of (2 ^ 64 - 1)) }
+{}
+
+/// A law: what is kept of the name of a definition, the places and the levels of its use: of `let A(x) = in(<x,n>); (B(n) | B(x))` eight and
+/// five, behind `let B(z) = new ~n; out(z)`. Where nothing is kept it is one of each, as the use of a name that nothing defines has.
+pub fn kept_sizes_by_hand()
+    ensures nodes { nodes_kept (Some eight_and_five) ≡ 8 }
+    ensures levels { levels_kept (Some eight_and_five) ≡ 5 }
+    ensures none { (nodes_kept None ≡ 1) × (levels_kept None ≡ 1) }
+    ensures of_use { (node_count (expansion (inner ∷ outer ∷ []) [] (call (codes "A") (a ∷ []))).process ≡ nodes_kept (Some eight_and_five))
+        × (level_count (expansion (inner ∷ outer ∷ []) [] (call (codes "A") (a ∷ []))).process ≡ levels_kept (Some eight_and_five)) }
+    ensures undefined { (node_count (expansion (inner ∷ outer ∷ []) [] (call (codes "C") (a ∷ []))).process ≡ nodes_kept None)
+        × (level_count (expansion (inner ∷ outer ∷ []) [] (call (codes "C") (a ∷ []))).process ≡ levels_kept None) }
+    ensures not_exchanged { ¬ (nodes_kept (Some eight_and_five) ≡ levels_kept (Some eight_and_five)) }
 {}

@@ -1,5 +1,5 @@
 //! Laws of the causes, as contracts of functions that do nothing.
-ghost use Rattle.std.specs.Prelude.{◌≡◌, ◌↔◌, ◌⊎◌, ℕ, List, []};
+ghost use Rattle.std.specs.Prelude.{◌≡◌, ◌↔◌, ◌⊎◌, ℕ, List, [], Some, slice_get};
 ghost use Rattle.sap_terms.specs.Signature.{Sig};
 ghost use Rattle.sap_terms.specs.declared.var.Var.{Var};
 ghost use Rattle.sap_process.specs.Flaws.{HasNoScopeFlaw};
@@ -9,6 +9,7 @@ ghost use Rattle.sap_macro.specs.Indexed.{defined};
 ghost use Rattle.sap_macro.specs.Instances.{AreClosedAmong, IsClosed};
 ghost use Rattle.sap_macro.specs.Order.{AreInOrder, UsesOnly};
 ghost use Rattle.sap_macro.specs.Seen.{seen};
+ghost use Rattle.sap_macro.specs.Walked.{cost_of, steps};
 ghost use Rattle.sap_macro.specs.Written.{Definition, Written, call};
 ghost use Rattle.sap_macro.specs.WrittenRuns.{HasArgumentsInScope};
 ghost use Rattle.sap_uses.specs.FaultCauses.{Holds, IsMacroCause};
@@ -61,3 +62,9 @@ pub fn accepted_definitions_are_closed()
     plain_uses_have_parameters();
     some_scope_flaw();
 }
+
+/// A law: of definitions in order a name costs as many steps as its body does, where each name in it costs as many as behind all of them.
+pub fn names_cost_their_bodies()
+    ensures { (ds : List Definition) (k : ℕ) (d : Definition) → AreInOrder [] ds → slice_get ds k ≡ Some d
+        → cost_of ds d.name ≡ steps (cost_of ds) d.body }
+{}

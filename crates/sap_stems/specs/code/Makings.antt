@@ -10,7 +10,7 @@ use Rattle.sap_stems.specs.StemsAt.{arguments}
 use Rattle.sap_stems.specs.declared.making.Making.{Making}
 use Rattle.sap_stems.specs.declared.making.Put.{Put}
 use Rattle.sap_stems.specs.declared.making.WrittenNode.{WrittenNode}
-use Rattle.sap_stems.specs.declared.trail.Use.{Use}
+use Rattle.sap_origin.specs.declared.trail.Use.{Use}
 
 -- the nodes that stand for the name
 abbrev pub nodes_put : List Put → List ℕ → Option (List WrittenNode)

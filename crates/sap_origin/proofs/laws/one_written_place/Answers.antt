@@ -8,7 +8,7 @@ returns-clause-some c = λ ds s p x y path m e.
     (r.standing, r.place, r.reached, r.form, r.means)
 
 pub returns-clause-one : goal.returns-clause-one
-returns-clause-one c = λ ds s z w p q r path m n. one_reach ds m n
+returns-clause-one c = λ ds v s z w p q r path m n. one_reach ds v m n
 
 pub returns-clause-only : goal.returns-clause-only
 returns-clause-only c = λ ds s z p q x path m h.

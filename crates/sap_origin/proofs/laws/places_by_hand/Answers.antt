@@ -4,6 +4,7 @@ use Rattle.std.specs.Prelude.{map, reverse}
 use Rattle.sap_origin.specs.Examples.{ComesTo, both, out_in_p, p_body, p_is, p_use, q_is, q_name, q_use, small}
 use Rattle.sap_origin.specs.Origins.{IsOrigin, start, words_left}
 use Rattle.sap_origin.specs.declared.origin.FileWord.{FileWord}
+use Rattle.sap_origin.specs.declared.trail.Replaced.TheVariants.{Every}
 use Rattle.sap_origin.specs.Reached.{Reaches, Standing, number_of, reaches_here, reaches_use, reaches_left, reaches_right, reaches_behind}
 use Rattle.sap_origin.proofs.OneReach.{one_reach}
 use Rattle.sap_origin.proofs.Walked.{through}
@@ -13,13 +14,13 @@ sign : ComesTo [] 6 []
 sign = record { standing = _; place = _; reaches = reaches_here tt; word_is = refl; uses_are = refl }
 
 through_both : ComesTo (1 ∷ []) 20 (13 ∷ 7 ∷ [])
-through_both = record { standing = _; place = _; reaches = reaches_left (reaches_use refl (reaches_use refl (reaches_here tt))); word_is = refl; uses_are = refl }
+through_both = record { standing = _; place = _; reaches = reaches_left (reaches_use refl tt (reaches_use refl tt (reaches_here tt))); word_is = refl; uses_are = refl }
 
 beside : ComesTo (2 ∷ []) 5 []
 beside = record { standing = _; place = _; reaches = reaches_right (reaches_here tt); word_is = refl; uses_are = refl }
 
 missing_through : ComesTo (1 ∷ 1 ∷ []) 20 (13 ∷ 7 ∷ [])
-missing_through = record { standing = _; place = _; reaches = reaches_left (reaches_use refl (reaches_use refl (reaches_behind (reaches_here tt)))); word_is = refl; uses_are = refl }
+missing_through = record { standing = _; place = _; reaches = reaches_left (reaches_use refl tt (reaches_use refl tt (reaches_behind (reaches_here tt)))); word_is = refl; uses_are = refl }
 
 missing_beside : ComesTo (2 ∷ 1 ∷ []) 5 []
 missing_beside = record { standing = _; place = _; reaches = reaches_right (reaches_behind (reaches_here tt)); word_is = refl; uses_are = refl }
@@ -27,7 +28,7 @@ missing_beside = record { standing = _; place = _; reaches = reaches_right (reac
 -- one word, and one chain of uses
 one_word : {path : List ℕ} {k j : ℕ} {us vs : List ℕ} → ComesTo path k us → ComesTo path j vs → (k ≡ j) × (us ≡ vs)
 one_word a b =
-    let one = one_reach both a.reaches b.reaches in (
+    let one = one_reach both Every a.reaches b.reaches in (
       a.word_is ∙ ap (λ (q : Located). number_of q + a.standing.behind) one.1 ∙ ap (λ (s : Standing). number_of b.place + s.behind) one.0 ∙ sym b.word_is,
       a.uses_are ∙ ap (λ (s : Standing). s.uses) one.0 ∙ sym b.uses_are,
     )
@@ -48,7 +49,7 @@ left_of : {z : Standing} {q : Located} → Reaches both (start 1) small (1 ∷ 2
 left_of (reaches_left r) = r
 
 no_second : {z : Standing} {q : Located} → Reaches both (start 1) small (1 ∷ 2 ∷ []) z q → ⊥
-no_second r = no_second_digit (through both p_is refl (through both q_is refl (left_of r)))
+no_second r = no_second_digit (through both Every p_is refl tt (through both Every q_is refl tt (left_of r)))
 
 pub returns-clause-sign : goal.returns-clause-sign
 returns-clause-sign c = sign
@@ -82,7 +83,7 @@ returns-clause-no_use_beside c = λ k. (other_uses (7 ∷ []) beside (λ e. cc (
 
 pub returns-clause-origin : goal.returns-clause-origin
 returns-clause-origin c =
-    record { standing = _; place = _; reaches = reaches_left (reaches_use refl (reaches_use refl (reaches_here tt))); word_is = refl; uses_are = refl }
+    record { standing = _; place = _; reaches = reaches_left (reaches_use refl tt (reaches_use refl tt (reaches_here tt))); word_is = refl; uses_are = refl }
 
 -- the word that an origin tells is that of the place
 pub returns-clause-one_word : goal.returns-clause-one_word

@@ -1,10 +1,9 @@
-use Rattle.std.proofs.Common.{refl, map}
+use Rattle.std.proofs.Common.{map}
 use Rattle.sap_origin.specs.Definitions.{plain_definition}
+use Rattle.sap_origin.specs.declared.trail.Replaced.TheVariants.{Plain}
 use Rattle.sap_seen.proofs.Found.{found}
-use Rattle.sap_seen.proofs.OneSeen.{one_seen}
 use Rattle.sap_seen.proofs.SeenSo.{NamesStand, seen_so}
 use Rattle.sap_seen.proofs.There.{OthersStay, is_seen, nodes_are, there}
-use Rattle.sap_seen.proofs.WrittenSeen.{in_process, written_seen}
 use Rattle.sap_seen.proofs.laws.seen_places.Goals as goal
 
 pub returns-clause-some : goal.returns-clause-some
@@ -14,7 +13,7 @@ returns-clause-some c = λ ds s p path y order uses e some.
     (r.standing, r.place, r.comes, r.nodes)
 
 pub returns-clause-one : goal.returns-clause-one
-returns-clause-one c = λ ds s z w p q r path m n. one_seen ds m n
+returns-clause-one c = λ ds. c.one_written_place.ensures.one ds Plain
 
 pub returns-clause-only : goal.returns-clause-only
 returns-clause-only c = λ ds s z p q path order m.
@@ -24,4 +23,4 @@ returns-clause-only c = λ ds s z p q path order m.
     (there ds law others m, nodes_are ds law others q (is_seen ds law others m))
 
 pub returns-clause-written : goal.returns-clause-written
-returns-clause-written c = λ ds p q behind path z m. written_seen ds p behind (in_process refl (λ r i. i)) m
+returns-clause-written c = λ ds. c.ways_lead_to_written_places.ensures ds Plain

@@ -1,4 +1,5 @@
-use Rattle.std.proofs.Common.{List, length, map, ap, ◌∙◌}
+use Rattle.std.proofs.Common.{List, length, map, sym, ap, ◌∙◌}
+use Rattle.std.proofs.lemmas.Slice.Zip.{AllZip-long}
 use Rattle.sap_macro.specs.Expansion.{expansion}
 use Rattle.sap_macro.specs.Located.{without_numbers}
 use Rattle.sap_nodes.specs.HeadNodes.{Node, head_nodes}
@@ -8,7 +9,6 @@ use Rattle.sap_stems.specs.Stems.{Stem}
 use Rattle.sap_stems.proofs.Found.{has_stems}
 use Rattle.sap_stems.proofs.Meant.{PlainLaw, expansion_meant}
 use Rattle.sap_stems.proofs.OneStem.{one_list}
-use Rattle.sap_stems.proofs.Pieces.{zip_length}
 use Rattle.sap_stems.proofs.StemUses.{stem_above}
 use Rattle.sap_stems.proofs.WrittenStems.{stem_written}
 use Rattle.sap_stems.proofs.laws.nodes_have_stems.Goals as goal
@@ -31,7 +31,7 @@ returns-clause-as_many c = λ ds p behind identifiers path y ss order uses e a.
       bodies = c.plain_names_stand_for_bodies.ensures.bodies (map plain_definition ds) order;
     } in
     let there = has_stems ds p behind path (expansion (map plain_definition ds) identifiers (without_numbers p)).process y (expansion_meant ds law order p identifiers uses) e in
-    ap (λ (rs : List Stem). length rs) (one_list ds a there.1) ∙ zip_length (λ (s : Stem) (n : Node). IsLike s.node n) there.0 (head_nodes y) there.2
+    ap (λ (rs : List Stem). length rs) (one_list ds a there.1) ∙ sym (AllZip-long (λ (s : Stem) (n : Node). IsLike s.node n) there.0 (head_nodes y) there.2)
 
 pub returns-clause-written : goal.returns-clause-written
 returns-clause-written c = λ ds p behind path ss k s a e. stem_written ds p behind k s a e

@@ -15,25 +15,25 @@ record All (ds : List LocatedDefinition) (p : Located) (path : List ℕ) : Type 
   pub are : AreStems ds p 1 path stems
 
 abbrev two_first : All two_defs two (1 ∷ [])
-two_first = record { stems = _; are = record { standing = _; place = _; reaches = reaches_behind (reaches_use refl (reaches_here tt)); stems_are = refl } }
+two_first = record { stems = _; are = record { standing = _; place = _; reaches = reaches_behind (reaches_use refl tt (reaches_here tt)); stems_are = refl } }
 
 abbrev two_second : All two_defs two (1 ∷ 1 ∷ [])
-two_second = record { stems = _; are = record { standing = _; place = _; reaches = reaches_behind (reaches_use refl (reaches_behind (reaches_here tt))); stems_are = refl } }
+two_second = record { stems = _; are = record { standing = _; place = _; reaches = reaches_behind (reaches_use refl tt (reaches_behind (reaches_here tt))); stems_are = refl } }
 
 abbrev two_main : All two_defs two []
 two_main = record { stems = _; are = record { standing = _; place = _; reaches = reaches_here tt; stems_are = refl } }
 
 abbrev twice_first : All twice_defs twice (1 ∷ [])
-twice_first = record { stems = _; are = record { standing = _; place = _; reaches = reaches_left (reaches_use refl (reaches_here tt)); stems_are = refl } }
+twice_first = record { stems = _; are = record { standing = _; place = _; reaches = reaches_left (reaches_use refl tt (reaches_here tt)); stems_are = refl } }
 
 abbrev twice_second : All twice_defs twice (2 ∷ [])
-twice_second = record { stems = _; are = record { standing = _; place = _; reaches = reaches_right (reaches_use refl (reaches_here tt)); stems_are = refl } }
+twice_second = record { stems = _; are = record { standing = _; place = _; reaches = reaches_right (reaches_use refl tt (reaches_here tt)); stems_are = refl } }
 
 abbrev plain_all : All plain_defs with_a []
-plain_all = record { stems = _; are = record { standing = _; place = _; reaches = reaches_use refl (reaches_use refl (reaches_here tt)); stems_are = refl } }
+plain_all = record { stems = _; are = record { standing = _; place = _; reaches = reaches_use refl tt (reaches_use refl tt (reaches_here tt)); stems_are = refl } }
 
 abbrev chain_all : All chain_defs with_a []
-chain_all = record { stems = _; are = record { standing = _; place = _; reaches = reaches_use refl (reaches_use refl (reaches_here tt)); stems_are = refl } }
+chain_all = record { stems = _; are = record { standing = _; place = _; reaches = reaches_use refl tt (reaches_use refl tt (reaches_here tt)); stems_are = refl } }
 
 from : {ds : List LocatedDefinition} {p : Located} {path : List ℕ} (all : All ds p path) (k : ℕ) (s : Stem) → slice_get all.stems k ≡ Some s → StemsFrom ds p path k s.place s.index s.standing.uses
 from all k s e = record { stems = all.stems; are = all.are; stem = s; stands = e; place_is = refl; index_is = refl; uses_are = refl }

@@ -17,10 +17,10 @@ record All (ds : List LocatedDefinition) (p : Located) (path : List ℕ) : Type 
   pub are : AreStems ds p 1 path stems
 
 abbrev chain_all : All chain_defs with_a []
-chain_all = record { stems = _; are = record { standing = _; place = _; reaches = reaches_use refl (reaches_use refl (reaches_here tt)); stems_are = refl } }
+chain_all = record { stems = _; are = record { standing = _; place = _; reaches = reaches_use refl tt (reaches_use refl tt (reaches_here tt)); stems_are = refl } }
 
 abbrev two_first : All two_defs two (1 ∷ [])
-two_first = record { stems = _; are = record { standing = _; place = _; reaches = reaches_behind (reaches_use refl (reaches_here tt)); stems_are = refl } }
+two_first = record { stems = _; are = record { standing = _; place = _; reaches = reaches_behind (reaches_use refl tt (reaches_here tt)); stems_are = refl } }
 
 -- what the program has there
 there : {ds : List LocatedDefinition} {p : Located} {path : List ℕ} (all : All ds p path) (k : ℕ) (o : Option Stem) → slice_get all.stems k ≡ o → (r : Option WrittenNode) → IsStemAt ds p 1 path k r → IsSome o r

@@ -8,8 +8,7 @@ use Rattle.sap_macro.specs.Order.{AreInOrder}
 use Rattle.sap_macro.specs.Sources.{definition_of, definitions, located, written}
 use Rattle.sap_macro.specs.Written.{Definition}
 use Rattle.sap_origin.specs.Definitions.{located_definitions}
-use Rattle.sap_use_words.proofs.Leading.{cost_defined}
-use Rattle.sap_use_words.proofs.Located.{located_there, named_so, plain_there}
+use Rattle.sap_use_words.proofs.Located.{plain_there}
 use Rattle.sap_use_words.proofs.Walking.{met_plain, met_unknown, met_use}
 use Rattle.sap_use_words.proofs.met.met_name.Goals as goal
 
@@ -38,8 +37,8 @@ returns-then-len-eq0 c = λ us.
     let zero = c.if-len-eq0.true in
     met_plain ds es us (subst (λ (xs : List Definition). AreInOrder [] xs) (sym law) c.requires.order) c.args.source.now (record { left = c.args.left; behind = c.args.behind_source }) d
     (record { source = c.deref.result; behind = slice_index_or c.args.behind.now k 0 }) f c.args.args.now k (ap located c.requires.is) (ap written c.requires.is)
-    (located_there c.args.defs.now c.args.behind.now k d c.requires.count c.at-definition.ensures) (named_so c.args.defs.now k d f c.at-definition.ensures index) (omega (arith, count, zero))
-    c.deref.ensures (cost_defined es c.requires.order k (definition_of d) (plain_there c.args.defs.now k d c.at-definition.ensures))
+    (c.located_definitions_by_number.ensures.located c.args.defs.now c.args.behind.now k d c.requires.count c.at-definition.ensures) (c.located_definitions_by_number.ensures.named c.args.defs.now f k d c.at-definition.ensures index) (omega (arith, count, zero))
+    c.deref.ensures (c.names_cost_their_bodies.ensures es k (definition_of d) c.requires.order (plain_there c.args.defs.now k d c.at-definition.ensures))
 
 pub returns-else-len-eq0 : goal.returns-else-len-eq0
 returns-else-len-eq0 c = λ us.
@@ -60,6 +59,6 @@ returns-else-len-eq0 c = λ us.
       behind = slice_index_or c.args.behind.now k 0;
       args = c.args.args;
     })
-    f k (ap located c.requires.is) (ap written c.requires.is) (located_there c.args.defs.now c.args.behind.now k d c.requires.count c.at-definition.ensures)
-    (named_so c.args.defs.now k d f c.at-definition.ensures index) (λ h. absurd (omega (arith, count, other, h)))
-    (cost_defined es c.requires.order k (definition_of d) (plain_there c.args.defs.now k d c.at-definition.ensures))
+    f k (ap located c.requires.is) (ap written c.requires.is) (c.located_definitions_by_number.ensures.located c.args.defs.now c.args.behind.now k d c.requires.count c.at-definition.ensures)
+    (c.located_definitions_by_number.ensures.named c.args.defs.now f k d c.at-definition.ensures index) (λ h. absurd (omega (arith, count, other, h)))
+    (c.names_cost_their_bodies.ensures es k (definition_of d) c.requires.order (plain_there c.args.defs.now k d c.at-definition.ensures))

@@ -8,7 +8,7 @@ use Rattle.sap_origin.specs.Definitions.{located_definitions}
 use Rattle.sap_origin.specs.Origins.{start, words_left}
 use Rattle.sap_use_words.specs.WrittenUses.{uses_at}
 use Rattle.sap_use_words.specs.code.Words.{first_word}
-use Rattle.sap_use_words.proofs.Located.{located_there, with_words}
+use Rattle.sap_origin.specs.Definitions.{with_words}
 use Rattle.sap_use_words.proofs.Others.{word_found, word_pass}
 use Rattle.sap_use_words.proofs.other.other_word.Goals as goal
 
@@ -20,7 +20,7 @@ returns-in-Some c =
     sym
     (c.loop-k.invariant
     ∙ word_found count c.args.behind_main (located c.args.main.now) (located_definitions c.args.defs.now c.args.behind.now) c.loop-k.k (with_words d b) (words_left c.in-Some.word)
-    (located_there c.args.defs.now c.args.behind.now c.loop-k.k d c.requires c.at.ensures)
+    (c.located_definitions_by_number.ensures.located c.args.defs.now c.args.behind.now c.loop-k.k d c.requires c.at.ensures)
     (ap (λ (s : Source). first_word count (uses_at (start b) (located s))) (sym c.deref.ensures) ∙ sym c.other_in-found.ensures
     ∙ ap (option_map words_left) c.in-Some.is))
 
@@ -31,6 +31,6 @@ loop-k-preserved c =
     let b = slice_index_or c.args.behind.now c.loop-k.k 0 in
     c.loop-k.invariant
     ∙ word_pass count c.args.behind_main (located c.args.main.now) (located_definitions c.args.defs.now c.args.behind.now) c.loop-k.k (with_words d b)
-    (located_there c.args.defs.now c.args.behind.now c.loop-k.k d c.requires c.at.ensures)
+    (c.located_definitions_by_number.ensures.located c.args.defs.now c.args.behind.now c.loop-k.k d c.requires c.at.ensures)
     (ap (λ (s : Source). first_word count (uses_at (start b) (located s))) (sym c.deref.ensures) ∙ sym c.other_in-found.ensures
     ∙ ap (option_map words_left) c.in_default.is)

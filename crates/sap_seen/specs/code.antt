@@ -1,2 +1,0 @@
--- What the code does, step by step: no public contract cites what stands below.
-pub mod Steps
