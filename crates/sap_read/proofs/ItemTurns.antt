@@ -21,7 +21,7 @@ use Rattle.sap_read.specs.LocatedItems.{LocatedBody, located_by, located_bodies,
 use Rattle.sap_draft.specs.ProcessGrammar.{IsProcess}
 use Rattle.sap_read.specs.ItemGrammar.{HasParameters, IsItem, AreItems, IsSomeItem, item_builtins, item_functions, item_definition, item_process, item_statement}
 use Rattle.sap_read.specs.declared.entry.Entry.{Entry}
-use Rattle.sap_read.specs.code.Bodies.{body, located_body}
+use Rattle.sap_read.specs.Entries.{body, located_body}
 use Rattle.sap_read.specs.code.ItemView.{AreLeft, AreLocatedBehind, IsItemOf, IsAdded, IsAdding, IsGoodBehind, IsPushed, SaysProcess, AreSaid}
 use Rattle.sap_grammar.proofs.ReadingLaws.Items.{cut_is}
 use Rattle.sap_grammar.specs.ItemLaws.{ItemLaws}

@@ -17,7 +17,7 @@ use Rattle.sap_read.specs.Item.{Body}
 use Rattle.sap_read.specs.LocatedItems.{LocatedBody, plain_body}
 use Rattle.sap_read.specs.Causes.{first_of, listed, is_among, unknown_from}
 use Rattle.sap_read.specs.UndefinedNames.{UsedName, calls_at, first_undefined, is_not_among}
-use Rattle.sap_read.specs.code.Bodies.{body, located_body}
+use Rattle.sap_read.specs.Entries.{body, located_body}
 use Rattle.sap_read.specs.code.Known.{AreBehind, is_not_kept, undefined_among, used_name}
 
 -- the first undefined name of two lists

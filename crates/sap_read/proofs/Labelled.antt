@@ -5,7 +5,7 @@ use Rattle.std.specs.List.{list_any}
 use Rattle.std.specs.Str.{bytes_eq}
 use Rattle.sap_read.specs.declared.entry.Entry.{Entry}
 use Rattle.sap_read.specs.Causes.{unlabelled, listed, labels, is_among, first_taken}
-use Rattle.sap_read.specs.code.Bodies.{body}
+use Rattle.sap_read.specs.Entries.{body}
 use Rattle.sap_read.specs.code.Label.{AreSeen}
 use Rattle.sap_terms.proofs.PlainLaws.Lists.{drop_got}
 

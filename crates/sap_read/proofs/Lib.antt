@@ -10,11 +10,11 @@ pub mod Checked
 pub mod ItemsRead
 pub mod LocatedItems
 pub mod SpelledBodies
-pub mod BodiesRead
 pub mod ItemTurns
 pub mod OneFile
 pub mod OneParting
 pub mod SomeFile
+pub mod SaidFiles
 pub mod WrittenFiles
 pub mod Sizes
 pub mod Small

@@ -8,7 +8,7 @@ use Rattle.sap_macro.specs.Sources.{located}
 use Rattle.sap_macro.specs.declared.definition.Definition.{Definition}
 use Rattle.sap_origin.specs.Definitions.{LocatedDefinition, located_definitions}
 use Rattle.sap_read.specs.LocatedItems.{defined_at, definitions_at, main_at}
-use Rattle.sap_read.specs.code.Bodies.{body, located_body}
+use Rattle.sap_read.specs.Entries.{body, located_body}
 
 pub definitions_more : (es : List Entry) (e : Entry) → definitions_of (map body (es ++ e ∷ [])) ≡ definitions_of (map body es) ++ defined_as e.label (body e)
 definitions_more [] e = append-nil (defined_as e.label (body e))

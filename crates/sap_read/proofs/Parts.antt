@@ -7,15 +7,15 @@ use Rattle.sap_formula.specs.Form.{RestrictionForm, LemmaForm}
 use Rattle.sap_read.specs.declared.fault.ReadFault.{ReadFault}
 use Rattle.sap_grammar.specs.Words.{words_of}
 use Rattle.sap_read.specs.Item.{Standing, declarations, bodies, statements}
-use Rattle.sap_grammar.specs.Cut.{Placed, placed, IsCut, last_line}
+use Rattle.sap_grammar.specs.Cut.{Placed, placed, IsCut}
 use Rattle.sap_read.specs.ItemGrammar.{AreItems}
 use Rattle.sap_read.specs.Item.{signature_of}
 use Rattle.sap_read.specs.Identifiers.{identifiers_of}
 use Rattle.sap_grammar.specs.Signatures.{clash_from, signature_from}
-use Rattle.sap_read.specs.Files.{AreTokens, IsParted, IsRead, no_item, refused, unexpanded, ill, locked, unchecked, accepted}
+use Rattle.sap_read.specs.Files.{AreTokens, IsParted, IsRead, refused, unexpanded, ill, locked, unchecked, accepted}
 use Rattle.sap_grammar.specs.ItemReading.{cut, declared_in_all}
 use Rattle.sap_grammar.specs.ItemReading.{header_of}
-use Rattle.sap_read.specs.code.Judged.{IsAccepted, IsFlawed, IsMislocked, IsRefused, IsRefusedCut}
+use Rattle.sap_read.specs.code.Judged.{IsAccepted, IsFlawed, IsMislocked, IsRefused}
 use Rattle.sap_grammar.specs.ItemLaws.{ItemLaws}
 use Rattle.sap_grammar.proofs.ReadingLaws.Items.{cut_is}
 use Rattle.sap_read.proofs.ItemsRead.{declared_are}
@@ -59,17 +59,6 @@ own_refused {z = z} is e p i (inl (inr r)) = by r.unsound
 own_refused {z = z} is e p i (inr u) =
     let a = u.annotated in
     subst (λ (q : ReadFault). IsRead z (Err q)) (sym u.first.is) (unchecked p i a.whole.nothing a.whole.expanded a.sound.well_formed a.sound.annotation u.first.faulty)
-
-pub is_refused : ItemLaws → (z : List ℕ) (ts : List Token) (x : List ℕ) (g : Sig) (clash : Option (List ℕ)) (e : ReadFault) → AreTokens z ts
-    → header_of (words_of z ts) ≡ Some x → IsDeclared z ts g clash → IsRefusedCut g clash (names_in z ts) (last_line (placed z ts)) (items_of z ts) e → IsRead z (Err e)
-is_refused laws z ts x g clash e t h d (inl f) = subst (λ (q : ReadFault). IsRead z (Err q)) (sym f.is) (no_item (parted laws z ts x t h) f.faulty)
-is_refused laws z ts x g clash e t h d (inr r) =
-    let is = r.standing in
-    let names = names_in z ts in
-    let told = d g (items_of z ts) is (items_are_cut laws z ts) r.items in
-    own_refused is e (parted laws z ts x t h) (subst (λ (s : Sig). AreItems s (items_of z ts) is) told.0 r.items)
-    (subst (λ (s : Sig). IsRefused s (clash_from pairs_alone (declarations is)) names (bodies is) (statements is) e) told.0
-    (subst (λ (o : Option (List ℕ)). IsRefused g o names (bodies is) (statements is) e) told.1 r.refused))
 
 -- items under their own signature that are accepted
 pub own_accepted : {z : List ℕ} {ts : List Token} {x : List ℕ} {cut : List (List Placed)} (is : List Standing) (q : Proc) (rs : List RestrictionForm) (ls : List LemmaForm) → IsParted z ts x cut

@@ -13,15 +13,14 @@ use Rattle.sap_read.specs.declared.fault.ReadFault.{ReadFault}
 use Rattle.sap_read.specs.declared.fault.ReadFault.TheVariants.{Lex as LexFault, Header, Syntax, Ill, Formula}
 use Rattle.sap_terms.specs.declared.limits.TheConstants.{MOST_FILE_NAME_BYTES}
 use Rattle.sap_draft.specs.declared.limits.TheConstants.{FILE_LIMITS}
-use Rattle.sap_grammar.specs.Words.{Word, mark, starts, words_of}
+use Rattle.sap_grammar.specs.Words.{Word, starts, words_of}
 use Rattle.sap_grammar.specs.Reading.{name_at}
 use Rattle.sap_macro.specs.Written.{Written, Definition}
-use Rattle.sap_read.specs.Item.{Item, definition, process, statement, Standing, declarations, Body, bodies, statements}
+use Rattle.sap_read.specs.Item.{definition, process, statement, Standing, declarations, Body, bodies, statements}
 use Rattle.sap_grammar.specs.Declarations.{Declaration}
-use Rattle.sap_grammar.specs.Cut.{Placed, placed, words, first_line, last_line}
+use Rattle.sap_grammar.specs.Cut.{Placed, placed, last_line}
 use Rattle.sap_draft.specs.ProcessGrammar.{IsProcess}
-use Rattle.sap_read.specs.ItemGrammar.{HasParameters, IsItem, AreItems, IsSomeItem, IsFaultyFile, item_definition, item_process, item_statement}
-use Rattle.sap_grammar.specs.Items.{items_end, items_more, no_end, bad_item, later_item}
+use Rattle.sap_read.specs.ItemGrammar.{HasParameters, IsItem, AreItems, IsSomeItem, item_definition, item_process, item_statement}
 use Rattle.sap_grammar.specs.Signatures.{signature_from, clash_from}
 use Rattle.sap_read.specs.Item.{signature_of}
 use Rattle.sap_macro.specs.Expansion.{expansion}

@@ -3,11 +3,11 @@ use Rattle.std.proofs.Common.{◌≡◌, ◌≤◌, ℕ, zero, suc, ◌+◌, ◌
 use Rattle.std.specs.Prelude.{◌⊎◌, Contains, codes}
 use Rattle.std.proofs.lemmas.List.Elements.{Contains-append_cases}
 use Rattle.std.proofs.Math.Seq.{take-append_seam, drop-append_seam}
-use Rattle.std.proofs.lemmas.List.{length-append, length-drop, length-take-le, take-append-drop, length-map, map-append}
+use Rattle.std.proofs.lemmas.List.{length-append, length-drop, take-append-drop, length-map, map-append}
 use Rattle.sap_terms.specs.Signature.{Sig}
 use Rattle.sap_text.specs.declared.token.Token.{Token}
 use Rattle.sap_grammar.specs.Words.{Word, mark, name, words_of}
-use Rattle.sap_grammar.specs.Cut.{Placed, placed, words, first_line, IsCut, cut_none, cut_one}
+use Rattle.sap_grammar.specs.Cut.{Placed, words, first_line, IsCut, cut_none, cut_one}
 use Rattle.sap_grammar.specs.Items.{items_end, items_more}
 use Rattle.sap_grammar.proofs.ReadingLaws.Tokens.{words_placed}
 use Rattle.sap_draft.specs.LocatedProcesses.{par_located}

@@ -1,103 +1,92 @@
 -- From what is written in a file to what it is read as.
-use Rattle.std.proofs.Common.{◌≡◌, ℕ, List, [], ◌∷◌, sym, subst, Some, None, Option, Ok, Err, true, false, Bool}
-use Rattle.std.specs.Prelude.{if◌then◌else◌, is_none, map, option_map, slice_get}
-use Rattle.sap_text.specs.declared.token.Token.{Token}
+use Rattle.std.proofs.Common.{◌≡◌, ℕ, List, inl, inr, refl, sym, subst, None, Ok, Err}
 use Rattle.sap_terms.specs.Signature.{Sig, pairs_alone}
 use Rattle.sap_process.specs.Proc.{Proc}
 use Rattle.sap_formula.specs.Form.{RestrictionForm, LemmaForm}
-use Rattle.sap_grammar.specs.ItemLaws.{ItemLaws}
-use Rattle.sap_grammar.specs.ItemReading.{header_of}
 use Rattle.sap_grammar.specs.Signatures.{clash_from}
 use Rattle.sap_grammar.specs.Words.{words_of}
+use Rattle.sap_locks.specs.Annotation.{LockFlaw, without, over}
 use Rattle.sap_statements.specs.declared.statement.Statement.{Statement}
-use Rattle.sap_statements.specs.Statements.{name_of}
-use Rattle.sap_restrict.specs.Restrictions.{is_generated}
-use Rattle.sap_read.specs.Causes.{cause, causes, first_of, first_repeated, first_taken, labels, unknown_from, unlabelled}
-use Rattle.sap_read.specs.Files.{AreTokens, IsRead}
+use Rattle.sap_uses.specs.declared.fault.MacroFault.{MacroFault}
+use Rattle.sap_uses.specs.declared.fault.MacroFault.TheVariants as uses
+use Rattle.sap_read.specs.Causes.{cause, fault_of_uses, lock_fault}
+use Rattle.sap_read.specs.Files.{IsRead}
 use Rattle.sap_read.specs.Identifiers.{identifiers_of}
-use Rattle.sap_read.specs.Item.{Body, bodies, declarations, signature_of, statements}
-use Rattle.sap_read.specs.ItemGrammar.{AreItems}
-use Rattle.sap_read.specs.LocatedItems.{located_bodies}
+use Rattle.sap_read.specs.Item.{bodies, declarations, statements}
+use Rattle.sap_read.specs.SaidFiles.{IsJudged, IsOfItems, IsOfUses, IsOfWords}
 use Rattle.sap_read.specs.WrittenFiles.{IsEarly, IsWrittenFile}
-use Rattle.sap_read.specs.code.Judged.{AreWritten, IsAccepted, IsRefused}
-use Rattle.sap_read.specs.code.Parting.{AreLocatedParts, AreParts}
+use Rattle.sap_read.specs.code.Judged.{IsAccepted, IsFirstUnchecked, IsRefused, IsUnsound}
+use Rattle.sap_read.specs.code.Parting.{AreParts}
 use Rattle.sap_read.specs.declared.fault.ReadFault.{ReadFault}
-use Rattle.sap_read.specs.declared.fault.ReadFault.TheVariants.{NoProcess, TwoProcesses, UnknownProcess, DuplicateName, FunctionClash}
+use Rattle.sap_read.specs.declared.fault.ReadFault.TheVariants.{Mem, Lex as LexFault, Header, Syntax, NoProcess, TwoProcesses, UnknownProcess, DuplicateName, FunctionClash, Parameters, Arguments, TooMany, TooDeep, Large, Flawed, Ill, Lock, Formula}
 use Rattle.sap_read.specs.declared.written.WrittenFile.{WrittenFile}
-use Rattle.sap_read.proofs.Parts.{IsDeclared, items_are_cut, items_of, own_accepted, own_refused, parted}
+use Rattle.sap_read.proofs.Parts.{own_accepted, own_refused}
 
 -- ---- causes that are looked for before uses
 
--- what each of these tells is such a cause
-AreEarly : List (Option ReadFault) → Type 0
-AreEarly [] = Unit {0}
-AreEarly (o ∷ os) = ((e : ReadFault) → o ≡ Some e → IsEarly e) × AreEarly os
+pub words_early : (e : ReadFault) → IsOfWords e → IsEarly e
+words_early Mem h = absurd h
+words_early (LexFault f) h = absurd h
+words_early Header h = tt
+words_early (Syntax n) h = tt
+words_early NoProcess h = absurd h
+words_early (TwoProcesses n) h = absurd h
+words_early (UnknownProcess x) h = absurd h
+words_early (DuplicateName x) h = absurd h
+words_early (FunctionClash x) h = absurd h
+words_early (Parameters x) h = absurd h
+words_early (Arguments x) h = absurd h
+words_early TooMany h = absurd h
+words_early TooDeep h = absurd h
+words_early (Large x) h = absurd h
+words_early (Flawed x w path) h = absurd h
+words_early (Ill w path) h = absurd h
+words_early (Lock l) h = absurd h
+words_early (Formula x g) h = absurd h
 
-first_early : (os : List (Option ReadFault)) → AreEarly os → (e : ReadFault) → first_of os ≡ Some e → IsEarly e
-unfolding AreEarly
-first_early [] each e h = absurd (cc)
-first_early (None ∷ os) each e h = first_early os each.1 e h
-first_early (Some f ∷ os) each e h = each.0 e h
+pub items_early : (e : ReadFault) → IsOfItems e → IsEarly e
+items_early Mem h = absurd h
+items_early (LexFault f) h = absurd h
+items_early Header h = absurd h
+items_early (Syntax n) h = absurd h
+items_early NoProcess h = tt
+items_early (TwoProcesses n) h = tt
+items_early (UnknownProcess x) h = tt
+items_early (DuplicateName x) h = tt
+items_early (FunctionClash x) h = tt
+items_early (Parameters x) h = absurd h
+items_early (Arguments x) h = absurd h
+items_early TooMany h = absurd h
+items_early TooDeep h = absurd h
+items_early (Large x) h = absurd h
+items_early (Flawed x w path) h = absurd h
+items_early (Ill w path) h = absurd h
+items_early (Lock l) h = absurd h
+items_early (Formula x g) h = absurd h
 
-absent : (b : Bool) (e : ReadFault) → (if b then Some NoProcess else None) ≡ Some e → IsEarly e
-absent true e h = let is : NoProcess ≡ e = cc in subst IsEarly is tt
-absent false e h = absurd (cc)
+-- ---- causes that are looked for behind them
 
-named_early : (make : List ℕ → ReadFault) → ((x : List ℕ) → IsEarly (make x)) → (o : Option (List ℕ)) (e : ReadFault) → option_map make o ≡ Some e → IsEarly e
-named_early make each None e h = absurd (cc)
-named_early make each (Some x) e h = let is : make x ≡ e = cc in subst IsEarly is (each x)
+pub uses_of : (f : MacroFault) → (fault_of_uses f ≡ Mem → ⊥) → IsOfUses (fault_of_uses f)
+uses_of uses.Mem h = h refl
+uses_of (uses.Parameters x) h = tt
+uses_of (uses.Arguments x) h = tt
+uses_of uses.TooMany h = tt
+uses_of uses.TooDeep h = tt
+uses_of (uses.Large x) h = tt
+uses_of (uses.Flawed x w path) h = tt
 
-second_early : (o : Option Body) (e : ReadFault) → option_map (λ (b : Body). TwoProcesses b.line) o ≡ Some e → IsEarly e
-second_early None e h = absurd (cc)
-second_early (Some b) e h = let is : TwoProcesses b.line ≡ e = cc in subst IsEarly is tt
+lock_judged : (w : LockFlaw) (path : List ℕ) → IsJudged (lock_fault w path)
+lock_judged without path = tt
+lock_judged over path = tt
 
-pub cause_early : (bs : List Body) (ss : List Statement) (clash : Option (List ℕ)) (e : ReadFault) → cause bs ss clash ≡ Some e → IsEarly e
-unfolding AreEarly
-cause_early bs ss clash e h = first_early (causes bs ss clash) (
-  absent (is_none (slice_get (unlabelled bs) 0)),
-  (
-    second_early (slice_get (unlabelled bs) 1),
-    (
-      named_early UnknownProcess (λ x. tt) (unknown_from [] bs),
-      (
-        named_early DuplicateName (λ x. tt) (first_repeated (labels bs)),
-        (
-          named_early DuplicateName (λ x. tt) (first_taken is_generated (map name_of ss)),
-          (named_early FunctionClash (λ x. tt) clash, tt),
-        ),
-      ),
-    ),
-  ),
-) e h
+pub unsound_judged : (g : Sig) (p : Proc) (e : ReadFault) → IsUnsound g p e → IsJudged e
+unsound_judged g p e (inl f) = subst IsJudged (sym f.is) tt
+unsound_judged g p e (inr f) = subst IsJudged (sym f.is) (lock_judged f.which f.path)
+
+pub unchecked_judged : (g : Sig) (ss : List Statement) (e : ReadFault) → IsFirstUnchecked g ss e → IsJudged e
+unchecked_judged g ss e f = subst IsJudged (sym f.is) tt
 
 -- ---- what is written, and what it is read as
-
--- the parts of a file with a header, where its items are written so
-pub is_written : ItemLaws → (z : List ℕ) (ts : List Token) (w : WrittenFile) → AreTokens z ts → header_of (words_of z ts) ≡ Some w.name
-    → IsDeclared z ts w.declared.signature w.declared.clash → w.identifiers ≡ identifiers_of (words_of z ts)
-    → AreWritten w.declared.signature w.declared.clash (items_of z ts) w.statements w.processes → IsWrittenFile z w
-is_written laws z ts w t h d names is =
-    let told = d w.declared.signature (items_of z ts) is.standing (items_are_cut laws z ts) is.items in
-    let own : (r : AreItems (signature_of is.standing) (items_of z ts) is.standing) × AreLocatedParts (located_bodies r) w.processes =
-    subst (λ (s : Sig). (r : AreItems s (items_of z ts) is.standing) × AreLocatedParts (located_bodies r) w.processes) told.0 (is.items, is.places is.standing is.items) in
-    record {
-      tokens = ts;
-      cut = items_of z ts;
-      standing = is.standing;
-      parted = parted laws z ts w.name t h;
-      items = own.0;
-      nothing = subst (λ (o : Option (List ℕ)). cause (bodies is.standing) (statements is.standing) o ≡ None) told.1 is.parts.nothing;
-      signature = told.0;
-      identifiers = names;
-      statements_are = is.statements_are;
-      order = is.parts.order;
-      definitions_are = is.parts.definitions_are;
-      main_is = is.parts.main_is;
-      uses = is.parts.uses;
-      count = is.parts.count;
-      definitions_stand = own.1.definitions_are;
-      main_stands = own.1.main_is;
-    }
 
 -- its processes are those of its items
 pub written_parts : (z : List ℕ) (w : WrittenFile) (is : IsWrittenFile z w) → AreParts (bodies is.standing) w.statements (clash_from pairs_alone (declarations is.standing)) w.processes

@@ -1,6 +1,5 @@
 -- Files as they are written: their definitions and their process, and what these show where a use runs as its definition's instance.
 use Rattle.std.specs.Prelude.{◌≡◌, ◌↔◌, ℕ, List, [], Some, Ok}
-use Rattle.sap_terms.specs.Signature.{Sig}
 use Rattle.sap_terms.specs.Trace.{Trace}
 use Rattle.sap_text.specs.declared.token.Token.{Token}
 use Rattle.sap_grammar.specs.Cut.{Placed}

@@ -24,8 +24,12 @@ pub mod FileProcess
 pub mod Causes
 pub mod Files
 pub mod SpelledBodies
+pub mod Entries
 pub mod UndefinedNames
+pub mod FileTokens
+pub mod SaidFiles
 pub mod WrittenFiles
+pub mod FileExpansions
 pub mod Occurring
 pub mod HeldVariables
 pub mod AsWritten

@@ -1,7 +1,6 @@
 -- What the code does, step by step: no public contract cites what stands below.
 pub mod Parameters
 pub mod ItemView
-pub mod Bodies
 pub mod Known
 pub mod Parting
 pub mod Judged

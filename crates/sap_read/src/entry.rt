@@ -5,10 +5,10 @@ use sap_terms::{Name, NameList};
 /// A process of a file: that of a name, with its parameters, or, without a label, the file's own. The line is that of its item, from 1;
 /// behind the item are so many words of the file.
 #[derive(Drop)]
-pub(crate) struct Entry {
-    pub(crate) label: Option<Name>,
-    pub(crate) params: NameList,
-    pub(crate) source: Box<Source>,
-    pub(crate) line: u64,
-    pub(crate) behind: usize,
+pub struct Entry {
+    pub label: Option<Name>,
+    pub params: NameList,
+    pub source: Box<Source>,
+    pub line: u64,
+    pub behind: usize,
 }

@@ -1,8 +1,6 @@
 //! Files, and the one that some bytes tell.
 ghost use Rattle.std.specs.Prelude.{◌≡◌, ◌≤◌, ◌<◌, ◌^◌, ℕ, List, [], Option, Ok, Err, IfOk, IsErrOf};
 ghost use Rattle.sap_terms.specs.Signature.{Sig};
-ghost use Rattle.sap_text.specs.Tokens.{IsLexed};
-ghost use Rattle.sap_text.specs.declared.fault.Lex.{Lex};
 ghost use Rattle.sap_macro.specs.Order.{AreInOrder};
 ghost use Rattle.sap_macro.specs.Sources.{definitions};
 ghost use Rattle.sap_statements.specs.declared.statement.Statement.{Statement};
@@ -15,11 +13,12 @@ ghost use Rattle.sap_locks.specs.Annotation.{IsAnnotation, IsFirstLockFlaw, Lock
 ghost use Rattle.sap_process.specs.Flaws.{IsWellFormed};
 ghost use Rattle.sap_process.specs.Sorted.{with_sorts};
 ghost use Rattle.sap_read.specs.Causes.{lock_fault};
-ghost use Rattle.sap_read.specs.Files.{AreTokens, IsRead, told_by};
+ghost use Rattle.sap_read.specs.Files.{IsRead, told_by};
 ghost use Rattle.sap_read.specs.declared.fault.ReadFault.{ReadFault};
-ghost use Rattle.sap_read.specs.declared.fault.ReadFault.TheVariants.{Mem as OutOfMemory, Lex as LexFault};
+ghost use Rattle.sap_read.specs.declared.fault.ReadFault.TheVariants.{Mem as OutOfMemory};
 
 use crate::fault::ReadFault;
+use crate::tokens::file_tokens;
 use crate::whole::whole_process;
 use crate::written::{FileProcesses, WrittenFile, written_file};
 use sap_formula::{LemmaList, RestrictionList};
@@ -27,10 +26,7 @@ use sap_grammar::Declared;
 use sap_locks::annotate_boxed;
 use sap_process::{Process, well_formed_boxed};
 use sap_statements::{Checked, Statement, check_statements};
-use sap_terms::{
-    Copied, Items, MOST_FILE_NAME_BYTES, MOST_PROCESS_PLACES, Mem, Name, NameList, Signature, boxed,
-};
-use sap_text::{Lex, Token, tokens};
+use sap_terms::{Copied, Items, MOST_PROCESS_PLACES, Mem, Name, NameList, Signature, boxed};
 use std::alloc::Global;
 
 /// What a file tells.
@@ -105,7 +101,7 @@ pub fn read_file_boxed(alloc: Global, bytes: &[u8]) -> Result<Box<File>, ReadFau
     ensures refused { (e : ReadFault) → IsErrOf result e → (e ≡ OutOfMemory → ⊥)
         → IsRead bytes.now (Err e) }
 {
-    let tokens = read_tokens(alloc, bytes)?;
+    let tokens = file_tokens(alloc, bytes)?;
     let written = written_file(alloc, bytes, tokens.as_slice())?;
     judge_file(alloc, written)
 }
@@ -210,7 +206,7 @@ fn judge_contents(
 }
 
 /// The restrictions and lemmas with the sorts of binders, where no formula has a fault; a reserved name of a fact is one.
-fn check_formulas(
+pub(crate) fn check_formulas(
     alloc: Global,
     sig: &Signature,
     statements: &Items<Statement>,
@@ -261,7 +257,7 @@ fn process_of(
 }
 
 /// The process with its sorts and labels, where it is well-formed and can be annotated.
-fn judge(alloc: Global, sig: &Signature, p: &Process) -> Result<Box<Process>, ReadFault>
+pub(crate) fn judge(alloc: Global, sig: &Signature, p: &Process) -> Result<Box<Process>, ReadFault>
     requires { node_count (proc p.now) ≤ MOST_PROCESS_PLACES }
     ensures accepted { IfOk result (λ q. IsSound sig.now (proc p.now) (proc q.value)) }
     ensures refused { (e : ReadFault) → IsErrOf result e → (e ≡ OutOfMemory → ⊥)
@@ -290,17 +286,4 @@ fn label(alloc: Global, p: Box<Process>) -> Result<Box<Process>, ReadFault>
         × IsFirstLockFlaw (proc p.value) w path }
 {
     Ok(annotate_boxed(alloc, p)?)
-}
-
-/// The tokens of a file, the longest of `MOST_FILE_NAME_BYTES`.
-fn read_tokens(alloc: Global, bytes: &[u8]) -> Result<Vec<Token>, ReadFault>
-    ensures found { IfOk result (λ v. AreTokens bytes.now v.items) }
-    ensures refused { (e : ReadFault) → IsErrOf result e → (e ≡ OutOfMemory → ⊥)
-        → (f : Lex) × (e ≡ LexFault f) × IsLexed MOST_FILE_NAME_BYTES 0 1 bytes.now (Err f) }
-{
-    match tokens(alloc, bytes, MOST_FILE_NAME_BYTES) {
-        Ok(tokens) => Ok(tokens),
-        Err(Lex::Mem) => Err(ReadFault::Mem),
-        Err(fault) => Err(ReadFault::Lex(fault)),
-    }
 }

@@ -5,7 +5,7 @@ ghost use Rattle.sap_statements.specs.declared.statement.Statement.{Statement};
 ghost use Rattle.sap_read.specs.declared.entry.Entry.{Entry};
 ghost use Rattle.sap_read.specs.Causes.{cause, unlabelled};
 ghost use Rattle.sap_read.specs.Item.{Body};
-ghost use Rattle.sap_read.specs.code.Bodies.{body};
+ghost use Rattle.sap_read.specs.Entries.{body};
 ghost use Rattle.sap_read.specs.code.Label.{IsProcessAt};
 
 use crate::entry::Entry;

@@ -7,13 +7,16 @@ mod fault;
 mod file;
 mod identifiers;
 mod items;
+mod judged;
 mod labels;
 mod laws;
 mod limits;
 mod names;
 mod parameters;
+mod said;
 mod taken;
 mod terms;
+mod tokens;
 mod undefined;
 mod whole;
 mod written;
@@ -22,8 +25,10 @@ pub use by_hand::{
     causes_by_hand, file_processes_by_hand, files_by_hand, identifiers_by_hand,
     written_files_by_hand,
 };
+pub use entry::Entry;
 pub use fault::ReadFault;
 pub use file::{File, read_file, read_file_boxed};
+pub use judged::{check_written, file_process};
 pub use laws::{
     bodies_are_one, bodies_are_spelled, definitions_are_in_order, file_processes_are_one,
     file_unless_refused, files_are_named_apart, files_are_printable, files_are_ready,
@@ -33,10 +38,12 @@ pub use laws::{
     some_file, used_definitions_are_closed,
 };
 pub use limits::MOST_NEW_NAME_BYTES;
+pub use said::{SaidFile, check_said, said_file, undefined_name, written_of};
 pub use sap_draft::{FILE_LIMITS, one_process, processes_by_hand};
 pub use sap_formula_grammar::one_formula;
 pub use sap_grammar::{one_fact, one_term};
 pub use sap_statements::one_statement;
 pub use terms::{read_fact, read_formula, read_term};
-pub use undefined::{undefined_name, undefined_names, undefined_names_by_hand};
+pub use tokens::file_tokens;
+pub use undefined::{undefined_names, undefined_names_by_hand};
 pub use written::{FileProcesses, WrittenFile, written_file};

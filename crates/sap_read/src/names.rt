@@ -8,7 +8,7 @@ ghost use Rattle.sap_read.specs.declared.fault.ReadFault.{ReadFault};
 ghost use Rattle.sap_read.specs.declared.fault.ReadFault.TheVariants.{Mem as OutOfMemory, UnknownProcess as IsUnknown};
 ghost use Rattle.sap_read.specs.Causes.{is_among, listed, unknown_from};
 ghost use Rattle.sap_read.specs.UndefinedNames.{calls_at, first_undefined};
-ghost use Rattle.sap_read.specs.code.Bodies.{body, located_body};
+ghost use Rattle.sap_read.specs.Entries.{body, located_body};
 ghost use Rattle.sap_read.specs.code.Known.{undefined_among, used_name};
 
 use crate::entry::Entry;

@@ -5,7 +5,7 @@ ghost use Rattle.std.specs.Str.{bytes_eq};
 ghost use Rattle.sap_restrict.specs.Restrictions.{is_generated};
 ghost use Rattle.sap_statements.specs.Statements.{name_of};
 ghost use Rattle.sap_read.specs.Causes.{labels, listed, first_taken, first_repeated};
-ghost use Rattle.sap_read.specs.code.Bodies.{body};
+ghost use Rattle.sap_read.specs.Entries.{body};
 ghost use Rattle.sap_read.specs.code.Label.{name_there};
 
 use crate::entry::Entry;

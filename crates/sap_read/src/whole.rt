@@ -12,7 +12,7 @@ ghost use Rattle.sap_read.specs.FileProcess.{definitions_of, main_of, defined_as
 ghost use Rattle.sap_read.specs.Item.{Body};
 ghost use Rattle.sap_read.specs.Causes.{cause, unlabelled, labels, unknown_from, first_repeated, first_taken};
 ghost use Rattle.sap_read.specs.LocatedItems.{defined_at, definitions_at, main_at};
-ghost use Rattle.sap_read.specs.code.Bodies.{body, located_body};
+ghost use Rattle.sap_read.specs.Entries.{body, located_body};
 ghost use Rattle.sap_read.specs.code.Judged.{IsRefusedBefore, IsWhole};
 ghost use Rattle.sap_read.specs.code.Parting.{AreLocatedParts, AreParts, located_main, written_main};
 ghost use Rattle.sap_read.specs.declared.fault.ReadFault.{ReadFault};
@@ -62,16 +62,13 @@ fn check_names(
     }
 }
 
-// Refuses what counts before uses are looked at.
-fn check_before(
+/// Refuses what counts before uses are looked at.
+pub(crate) fn check_before(
     alloc: Global,
     entries: &Items<Entry>,
     statements: &Items<Statement>,
     clash: &Option<Name>,
 ) -> Result<(), ReadFault>
-    ensures one { OnOk result ((e : Body) × (unlabelled (map body entries.now) ≡ e ∷ [])) }
-    ensures known { OnOk result (unknown_from [] (map body entries.now) ≡ None) }
-    ensures distinct { OnOk result (first_repeated (labels (map body entries.now)) ≡ None) }
     ensures accepted { OnOk result (cause (map body entries.now) statements.now clash.now ≡ None) }
     ensures refused { (e : ReadFault) → IsErrOf result e → (e ≡ OutOfMemory → ⊥)
         → cause (map body entries.now) statements.now clash.now ≡ Some e }
@@ -155,23 +152,16 @@ fn parted(alloc: Global, entries: Items<Entry>) -> Result<FileParts, Mem>
     Ok(all)
 }
 
-/// The processes of a file, or the first cause that refuses it before uses are looked at. It takes time in proportion to the processes
-/// as they are written.
-pub(crate) fn file_processes(
-    alloc: Global,
-    entries: Items<Entry>,
-    statements: &Items<Statement>,
-    clash: &Option<Name>,
-) -> Result<FileProcesses, ReadFault>
-    ensures parts { IfOk result (λ p. AreParts (map body entries) statements.now clash.now p) }
+/// The processes of a file that has one of its own. It takes time in proportion to their number. Want of memory is the only error.
+pub(crate) fn file_processes(alloc: Global, entries: Items<Entry>) -> Result<FileProcesses, Mem>
+    requires { (b : Body) × (unlabelled (map body entries) ≡ b ∷ []) }
+    ensures parts { (ss : List Statement) (clash : Option (List ℕ)) → cause (map body entries) ss clash ≡ None
+        → IfOk result (λ p. AreParts (map body entries) ss clash p) }
     ensures places { IfOk result (λ p. AreLocatedParts (map located_body entries) p) }
-    ensures refused { (e : ReadFault) → IsErrOf result e → (e ≡ OutOfMemory → ⊥)
-        → cause (map body entries) statements.now clash.now ≡ Some e }
 {
-    check_before(alloc, &entries, statements, clash)?;
     let FileParts { defs, behind, main } = parted(alloc, entries)?;
     match main {
-        None => Err(ReadFault::NoProcess),
+        None => unreachable!(),
         Some(main) => Ok(FileProcesses {
             definitions: defs,
             behind,

@@ -9,11 +9,9 @@ use Rattle.sap_grammar.specs.Cut.{Placed, placed, first_line}
 use Rattle.sap_grammar.specs.ItemReading.{cut}
 use Rattle.sap_read.specs.Item.{Item, Body, body_of, bodies, stated_by, Standing, statements}
 use Rattle.sap_statements.specs.declared.statement.Statement.{Statement}
-use Rattle.sap_statements.specs.Statements.{IsStatement}
-use Rattle.sap_draft.specs.declared.limits.TheConstants.{FILE_LIMITS}
 use Rattle.sap_read.specs.ItemGrammar.{IsItem, IsSomeItem, AreItems}
 use Rattle.sap_read.specs.LocatedItems.{LocatedBody, located_by, located_bodies}
-use Rattle.sap_read.specs.code.Bodies.{body, located_body}
+use Rattle.sap_read.specs.Entries.{body, located_body}
 
 -- the tokens are an item that says these of processes and these of traces
 pub record IsItemOf (g : Sig) (bytes : List ℕ) (tokens : List Token) (said : List Body) (stated : List Statement) : Type 0 where

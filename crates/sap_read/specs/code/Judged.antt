@@ -10,16 +10,11 @@ use Rattle.sap_process.specs.Sorted.{with_sorts}
 use Rattle.sap_process.specs.declared.flaw.Flaw.{Flaw}
 use Rattle.sap_statements.specs.declared.statement.Statement.{Statement}
 use Rattle.sap_read.specs.declared.fault.ReadFault.{ReadFault}
-use Rattle.sap_read.specs.declared.fault.ReadFault.TheVariants.{Syntax, Ill, Formula}
-use Rattle.sap_read.specs.Item.{Body, Standing, bodies, statements}
-use Rattle.sap_grammar.specs.Cut.{Placed}
-use Rattle.sap_read.specs.ItemGrammar.{AreItems, IsFaultyFile}
+use Rattle.sap_read.specs.declared.fault.ReadFault.TheVariants.{Ill, Formula}
+use Rattle.sap_read.specs.Item.{Body}
 use Rattle.sap_read.specs.FileProcess.{IsExpanded, IsUnexpanded}
 use Rattle.sap_uses.specs.declared.fault.MacroFault.{MacroFault}
 use Rattle.sap_read.specs.Causes.{cause, fault_of_uses, lock_fault}
-use Rattle.sap_read.specs.LocatedItems.{located_bodies}
-use Rattle.sap_read.specs.code.Parting.{AreLocatedParts, AreParts}
-use Rattle.sap_read.specs.declared.written.FileProcesses.{FileProcesses}
 use Rattle.sap_statements.specs.Stated.{AreFaultless, IsFirstFaulty, restrictions_of, lemmas_of}
 
 -- the process has no flaw, and this is it with sorts and labels
@@ -105,28 +100,3 @@ pub record IsAccepted (g : Sig) (clash : Option (List ℕ)) (names : List (List 
 -- they are refused, for their process or for a formula
 abbrev pub IsRefused : Sig → Option (List ℕ) → List (List ℕ) → List Body → List Statement → ReadFault → Type 0
 IsRefused g clash names bs ss e = IsRefusedAs g clash names bs ss e ⊎ IsUnchecked g clash names bs ss e
-
--- these are items under the signature that nothing refuses before uses are looked at, and these are their statements and processes,
--- however they are spelled
-pub record AreWritten (g : Sig) (clash : Option (List ℕ)) (cut : List (List Placed)) (ss : List Statement) (p : FileProcesses) : Type 0 where
-  pub standing : List Standing
-  pub items : AreItems g cut standing
-  pub statements_are : ss ≡ statements standing
-  pub parts : AreParts (bodies standing) (statements standing) clash p
-  pub places : (js : List Standing) (r : AreItems g cut js) → AreLocatedParts (located_bodies r) p
-
--- these are items under the signature that are refused for this
-pub record AreRefused (g : Sig) (clash : Option (List ℕ)) (names : List (List ℕ)) (cut : List (List Placed)) (e : ReadFault) : Type 0 where
-  pub standing : List Standing
-  pub items : AreItems g cut standing
-  pub refused : IsRefused g clash names (bodies standing) (statements standing) e
-
--- the first that is no item begins on this line
-pub record IsNoItem (last : ℕ) (cut : List (List Placed)) (e : ReadFault) : Type 0 where
-  pub line : ℕ
-  pub is : e ≡ Syntax line
-  pub faulty : IsFaultyFile last cut line
-
--- the pieces are refused for this
-abbrev pub IsRefusedCut : Sig → Option (List ℕ) → List (List ℕ) → ℕ → List (List Placed) → ReadFault → Type 0
-IsRefusedCut g clash names last cut e = IsNoItem last cut e ⊎ AreRefused g clash names cut e

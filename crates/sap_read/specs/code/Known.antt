@@ -7,7 +7,7 @@ use Rattle.sap_read.specs.declared.entry.Entry.{Entry}
 use Rattle.sap_read.specs.declared.names.Undefined.{Undefined}
 use Rattle.sap_read.specs.Causes.{is_among}
 use Rattle.sap_read.specs.UndefinedNames.{UsedName, first_undefined}
-use Rattle.sap_read.specs.code.Bodies.{located_body}
+use Rattle.sap_read.specs.Entries.{located_body}
 
 -- a name that the program found where it is used
 abbrev pub used_name : Undefined → UsedName

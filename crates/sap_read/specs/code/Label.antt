@@ -4,7 +4,7 @@ use Rattle.std.specs.List.{list_any}
 use Rattle.std.specs.Str.{bytes_eq}
 use Rattle.sap_read.specs.declared.entry.Entry.{Entry}
 use Rattle.sap_read.specs.Causes.{unlabelled, is_among, first_taken}
-use Rattle.sap_read.specs.code.Bodies.{body}
+use Rattle.sap_read.specs.Entries.{body}
 
 -- at this index is the first process without a label from that index on
 abbrev pub IsProcessAt : List Entry → ℕ → ℕ → Type 0

@@ -1,6 +1,6 @@
 use Rattle.std.proofs.Common.{◌≡◌, ◌++◌, drop, map}
 use Rattle.sap_read.specs.Causes.{labels}
-use Rattle.sap_read.specs.code.Bodies.{body}
+use Rattle.sap_read.specs.Entries.{body}
 use Rattle.sap_read.proofs.taken.labels.Given as goal
 
 abbrev pub invariant-loop-entry : goal.invariant-loop-entry

@@ -3,7 +3,7 @@ use Rattle.std.proofs.lemmas.Grind.{common_steps}
 use Rattle.std.specs.Option.{option_or}
 use Rattle.sap_read.specs.FileProcess.{defined_as, main_of}
 use Rattle.sap_read.specs.LocatedItems.{defined_at, main_at}
-use Rattle.sap_read.specs.code.Bodies.{body, located_body}
+use Rattle.sap_read.specs.Entries.{body, located_body}
 use Rattle.sap_read.proofs.Parting.{definitions_at_more, definitions_more, main_at_more, main_more}
 use Rattle.sap_read.proofs.whole.parted.Goals as goal
 

@@ -4,7 +4,7 @@ use Rattle.sap_macro.specs.Sources.{definitions}
 use Rattle.sap_origin.specs.Definitions.{located_definitions}
 use Rattle.sap_read.specs.FileProcess.{definitions_of, main_of}
 use Rattle.sap_read.specs.LocatedItems.{definitions_at, main_at}
-use Rattle.sap_read.specs.code.Bodies.{body, located_body}
+use Rattle.sap_read.specs.Entries.{body, located_body}
 use Rattle.sap_read.specs.code.Parting.{located_main, written_main}
 use Rattle.sap_read.proofs.whole.parted.Given as goal
 
