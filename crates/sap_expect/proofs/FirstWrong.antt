@@ -104,7 +104,7 @@ module _ (ws : List Word) (lettered : AreLettered ws) (k n : ℕ) (us : List Ope
       (subst (λ (x : List Word). Reads 0 file x) (append-nil (take k ws) ∙ whole) (r.goes.on [] (subst (λ (x : List Open). Reads n x []) (sym none) reads_end)))
 
 -- the same by the token of this number
-token_at : (z : List ℕ) (k : ℕ) (ts : List Token) (d : Token) → k < length ts → drop k (words_of z ts) ≡ word_of z (get_or ts k d) ∷ drop (suc k) (words_of z ts)
+pub token_at : (z : List ℕ) (k : ℕ) (ts : List Token) (d : Token) → k < length ts → drop k (words_of z ts) ≡ word_of z (get_or ts k d) ∷ drop (suc k) (words_of z ts)
 token_at z k [] d lt = absurd (omega (arith, lt))
 token_at z zero (u ∷ ts) d lt = refl
 token_at z (suc k) (u ∷ ts) d lt = token_at z k ts d (omega (arith, lt))

@@ -6,10 +6,10 @@ use Rattle.std.specs.Bool.{Decides}
 use Rattle.std.specs.Borrow.{Bor}
 use Rattle.sap_text.specs.declared.token.Kind.{Kind as TokenKind}
 use Rattle.sap_grammar.specs.Words.{Word}
-use Rattle.sap_expect.specs.FileTable.{Open, Takes}
+use Rattle.sap_expect.specs.FileTable.{Counting, Open, TakesBy}
 use Rattle.sap_expect.specs.Kinds.{Kind, kind_of, kinds, name_kinds, sign_kinds, wide_kinds, word_kinds}
 use Rattle.sap_expect.specs.declared.kind.WordKind as code
-use Rattle.sap_expect.specs.code.Going.{AreRowsNamed, Behind, CanGo, Each, KindRow, IsRowNamed, kind_row, kind_row_of, kind_rows, no_row, row_is, row_isnt}
+use Rattle.sap_expect.specs.code.Going.{AreRowsNamed, Behind, CanGoBy, Each, KindRow, IsRowNamed, kind_row, kind_row_of, kind_rows, no_row, row_is, row_isnt}
 use Rattle.sap_expect.specs.code.Steps.{Taken}
 
 pub next_item : {X : Type 0} (k : ℕ) (xs : List X) (d : X) → k < length xs → drop k xs ≡ get_or xs k d ∷ drop (k + 1) xs
@@ -26,9 +26,9 @@ none_left (suc k) [] le = refl
 none_left (suc k) (x ∷ xs) le = none_left k xs (omega (arith, le))
 
 -- the word is taken or not
-pub taken_can : (n k : ℕ) (vs us next : List Open) (w : Word) (b : Bool) → us ≡ vs → Taken n us w k next b → Decides b (CanGo n vs w)
-taken_can n k vs us next w true e t = ((λ f. (k, next, subst (λ (xs : List Open). Takes n xs w k next) e t)), (λ g. refl))
-taken_can n k vs us next w false e t = ((λ f. absurd (cc (f))), (λ g. absurd (t g.0 g.1 (subst (λ (xs : List Open). Takes n xs w g.0 g.1) (sym e) g.2))))
+pub taken_can : (s : Counting) (n k : ℕ) (vs us next : List Open) (w : Word) (b : Bool) → us ≡ vs → Taken s n us w k next b → Decides b (CanGoBy s n vs w)
+taken_can s n k vs us next w true e t = ((λ f. (k, next, subst (λ (xs : List Open). TakesBy s n xs w k next) e t)), (λ g. refl))
+taken_can s n k vs us next w false e t = ((λ f. absurd (cc (f))), (λ g. absurd (t g.0 g.1 (subst (λ (xs : List Open). TakesBy s n xs w g.0 g.1) (sym e) g.2))))
 
 -- so of each of those that are left where it is so of all, and the other way round
 pub record Left {X : Type 0} (P : X → Type 0) (all rest : List X) : Type 0 where

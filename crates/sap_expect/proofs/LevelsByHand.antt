@@ -4,7 +4,8 @@ use Rattle.sap_grammar.specs.Words.{Word}
 use Rattle.sap_expect.specs.declared.wanted.Limit.TheVariants.{Same}
 use Rattle.sap_expect.specs.declared.wanted.Part.{Part}
 use Rattle.sap_expect.specs.FileTable.{Open, part}
-use Rattle.sap_expect.specs.LevelExamples.{AreTaken, MayBegin, more_taken, none_taken}
+use Rattle.sap_expect.specs.LevelExamples.{MayBegin}
+use Rattle.sap_expect.specs.Levels.{AreTaken, more_taken, none_taken}
 use Rattle.sap_expect.proofs.Reaching.{Answer, State, next_at, next_told, reach, reach_by, turns}
 use Rattle.sap_expect.proofs.Takes.{one_next}
 
@@ -14,7 +15,7 @@ one_taken s w ws u None is go f = absurd (cc)
 one_taken s w ws u (Some None) is go f = absurd (cc)
 one_taken s w ws u (Some (Some next)) is go f = more_taken (next_told turns s w (Some next) is) (go next f)
 
-all_taken : (s : State) (ws : List Word) (u : State) → reach s ws ≡ Some u → AreTaken s.0 s.1 ws u.0 u.1
+pub all_taken : (s : State) (ws : List Word) (u : State) → reach s ws ≡ Some u → AreTaken s.0 s.1 ws u.0 u.1
 all_taken s [] u e =
     let same : s ≡ u = cc in
     subst (λ (x : State). AreTaken s.0 s.1 [] x.0 x.1) same none_taken
@@ -53,7 +54,7 @@ one_stops s w ws (Some (Some x)) is go f j us (more_taken {k = k} {next = next} 
     let one = one_next s.0 s.1 w k x.0 next x.1 t (next_told turns s w (Some x) is) in
     go x f j us (subst (λ (z : List Open). AreTaken x.0 z ws j us) one.1 (subst (λ (i : ℕ). AreTaken i next ws j us) one.0 r))
 
-all_stops : (s : State) (ws : List Word) → stops s ws ≡ true → (j : ℕ) (us : List Open) → AreTaken s.0 s.1 ws j us → ⊥
+pub all_stops : (s : State) (ws : List Word) → stops s ws ≡ true → (j : ℕ) (us : List Open) → AreTaken s.0 s.1 ws j us → ⊥
 all_stops s [] e j us h = absurd (cc)
 all_stops s (w ∷ ws) e j us h = one_stops s w ws (next_at turns s w) refl (λ next f. all_stops next ws f) e j us h
 

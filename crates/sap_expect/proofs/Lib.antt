@@ -47,3 +47,7 @@ pub mod KindsOfFiles
 pub mod KindTexts
 pub mod OpenMarksWalk
 pub mod KindsAtLimits
+pub mod Taken
+pub mod Alone
+pub mod TooDeepWords
+pub mod DeepByHand

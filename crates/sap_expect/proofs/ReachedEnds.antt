@@ -2,11 +2,11 @@
 use Rattle.std.proofs.Common.{◌≡◌, ℕ, true, List, refl}
 use Rattle.sap_grammar.specs.Words.{Word}
 use Rattle.sap_expect.specs.FileTable.{Open, Reads, file}
-use Rattle.sap_expect.specs.LevelExamples.{AreTaken, more_taken, none_taken}
+use Rattle.sap_expect.specs.Levels.{AreTaken, more_taken, none_taken}
 use Rattle.sap_expect.proofs.Ends.{ends}
 use Rattle.sap_expect.proofs.Quiet.{closes, closes_on}
 
-closes_behind : {n k : ℕ} {vs us : List Open} {ws : List Word} → AreTaken n vs ws k us → closes vs ≡ true → closes us ≡ true
+pub closes_behind : {n k : ℕ} {vs us : List Open} {ws : List Word} → AreTaken n vs ws k us → closes vs ≡ true → closes us ≡ true
 closes_behind none_taken e = e
 closes_behind (more_taken t r) e = closes_behind r (closes_on t e)
 

@@ -7,6 +7,8 @@ use Rattle.sap_grammar.specs.Declarations.{value}
 use Rattle.sap_draft.specs.declared.limits.TheConstants.{FILE_LIMITS}
 use Rattle.sap_expect.specs.declared.wanted.Part.{Part}
 use Rattle.sap_expect.specs.declared.wanted.Part.TheVariants.{File, Items, Builtin, MoreBuiltins, Function, Privacy, MoreFunctions, Parameters, MoreParameters, Lemma, Attribute, MoreAttributes, Mode, Process, Bars, Sequence, Arguments, Then, Else, NewName, Message, Facts, MoreFacts, Fact, Arrow, Shown, MoreShown, Term, Application, Terms, MoreTerms, Pair, MoreParts, Equivalence, MoreEquivalence, Ended, Implication, MoreImplication, Disjunction, MoreDisjunction, Conjunction, MoreConjunction, Formula, Truth, Atom, UpperAtom, LowerAtom, Times, Time, Binders, MoreBinders}
+use Rattle.sap_expect.specs.declared.nested.Nested.{Nested}
+use Rattle.sap_expect.specs.declared.nested.Nested.TheVariants.{Term as ATerm, Process as AProcess, Formula as AFormula}
 use Rattle.sap_expect.specs.declared.wanted.Limit.{Limit}
 use Rattle.sap_expect.specs.declared.wanted.Limit.TheVariants.{Same, Below, OfTerm, OfProcess, OfFormula}
 use Rattle.sap_expect.specs.declared.wanted.Change.{Change}
@@ -59,6 +61,44 @@ holds Never m n = false
 holds HasLevel m n = nat_le 1 m
 holds HasRoom m n = nat_le 2 m
 holds GoesOn m n = nat_le (n + 1) m
+
+-- what a test counts levels of, in each part that has one: a term, a process or a formula
+abbrev pub levels_in : Part → Option Nested
+levels_in Bars = Some AProcess
+levels_in Sequence = Some AProcess
+levels_in Term = Some ATerm
+levels_in Terms = Some ATerm
+levels_in MoreParts = Some ATerm
+levels_in Atom = Some ATerm
+levels_in MoreEquivalence = Some AFormula
+levels_in MoreImplication = Some AFormula
+levels_in MoreDisjunction = Some AFormula
+levels_in MoreConjunction = Some AFormula
+levels_in Formula = Some AFormula
+levels_in p = None
+
+-- which levels count: all; all but those of terms, of processes or of formulas; none
+pub data Counting : Type 0 where
+  every_level : Counting
+  all_but : Nested → Counting
+  no_level : Counting
+
+abbrev pub is_this : Nested → Option Nested → Bool
+is_this ATerm (Some ATerm) = true
+is_this AProcess (Some AProcess) = true
+is_this AFormula (Some AFormula) = true
+is_this c o = false
+
+-- whether a part may begin so with some levels
+abbrev pub may_hold : Test → Bool
+may_hold Never = false
+may_hold t = true
+
+-- whether it may begin so, where levels count so
+abbrev pub passes : Counting → Part → Test → ℕ → ℕ → Bool
+passes every_level p t m n = holds t m n
+passes (all_but c) p t m n = if is_this c (levels_in p) then may_hold t else holds t m n
+passes no_level p t m n = may_hold t
 
 -- a row of the table: a word that a part may begin with, where it may begin so, and what is wanted behind it
 abbrev pub Row : Type 0
@@ -370,22 +410,26 @@ opened m n v = (v, number v m n)
 abbrev pub all_opened : ℕ → ℕ → List Wanted → List Open
 all_opened m n vs = map (opened m n) vs
 
--- what ended last has so many levels, and this is wanted: the word may stand next, and behind it the levels are these, and this is
--- wanted. The word is what is wanted first; a row of the part that is wanted first begins with it, and may; none does, and the word may
--- stand where what the part is otherwise is wanted; or levels change first
-pub data Takes : ℕ → List Open → Word → ℕ → List Open → Type 0 where
+-- what ended last has so many levels, and this is wanted: the word may stand next where levels count so, and behind it the levels are
+-- these, and this is wanted. The word is what is wanted first; a row of the part that is wanted first begins with it, and may; none
+-- does, and the word may stand where what the part is otherwise is wanted; or levels change first
+pub data TakesBy (s : Counting) : ℕ → List Open → Word → ℕ → List Open → Type 0 where
   takes_word : {n k : ℕ} {v : Wanted} {vs : List Open} {w : Word} → is_wanted v w ≡ true
-      → Takes n ((v, k) ∷ vs) w n vs
+      → TakesBy s n ((v, k) ∷ vs) w n vs
   takes_row : {n m : ℕ} {p : Part} {l : Limit} {t : Test} {rest : List Wanted} {vs : List Open} {w : Word}
-      → row p w ≡ Some (t, rest) → holds t m n ≡ true
-      → Takes n ((part p l, m) ∷ vs) w n (all_opened m n rest ++ vs)
+      → row p w ≡ Some (t, rest) → passes s p t m n ≡ true
+      → TakesBy s n ((part p l, m) ∷ vs) w n (all_opened m n rest ++ vs)
   takes_other : {n m n' : ℕ} {p : Part} {l : Limit} {t : Test} {other : List Wanted} {vs next : List Open} {w : Word}
-      → row p w ≡ None → otherwise p ≡ Some (t, other) → holds t m n ≡ true
-      → Takes n (all_opened m n other ++ vs) w n' next
-      → Takes n ((part p l, m) ∷ vs) w n' next
+      → row p w ≡ None → otherwise p ≡ Some (t, other) → passes s p t m n ≡ true
+      → TakesBy s n (all_opened m n other ++ vs) w n' next
+      → TakesBy s n ((part p l, m) ∷ vs) w n' next
   takes_level : {n k n' : ℕ} {c : Change} {vs next : List Open} {w : Word}
-      → Takes (changed c n k) vs w n' next
-      → Takes n ((level c, k) ∷ vs) w n' next
+      → TakesBy s (changed c n k) vs w n' next
+      → TakesBy s n ((level c, k) ∷ vs) w n' next
+
+-- where all levels count
+abbrev pub Takes : ℕ → List Open → Word → ℕ → List Open → Type 0
+Takes = TakesBy every_level
 
 -- the words are all that is wanted, each where it may stand
 pub data Reads : ℕ → List Open → List Word → Type 0 where

@@ -4,13 +4,8 @@ use Rattle.sap_grammar.specs.Words.{Word, mark, name, number, quoted}
 use Rattle.sap_expect.specs.declared.wanted.Limit.TheVariants.{Same}
 use Rattle.sap_expect.specs.declared.wanted.Part.{Part}
 use Rattle.sap_expect.specs.declared.wanted.Part.TheVariants.{Equivalence}
-use Rattle.sap_expect.specs.FileTable.{Open, Takes, part, sign}
-
--- the words are taken one by one
-pub data AreTaken : ℕ → List Open → List Word → ℕ → List Open → Type 0 where
-  none_taken : {n : ℕ} {vs : List Open} → AreTaken n vs [] n vs
-  more_taken : {n k j : ℕ} {vs next us : List Open} {w : Word} {ws : List Word} → Takes n vs w k next
-      → AreTaken k next ws j us → AreTaken n vs (w ∷ ws) j us
+use Rattle.sap_expect.specs.FileTable.{Open, part, sign}
+use Rattle.sap_expect.specs.Levels.{AreTaken}
 
 -- so where such a part of at most m levels is wanted
 abbrev pub MayBegin : Part → ℕ → List Word → Type 0

@@ -2,10 +2,13 @@ pub mod FirstWrong
 pub mod FileTable
 pub mod FileWords
 pub mod Letters
+pub mod Levels
+pub mod Expected
 pub mod LevelExamples
 pub mod ItemExamples
 pub mod Kinds
 pub mod KindText
+pub mod ExpectedText
 pub mod MayStand
 pub mod OpenMarks
 pub mod OpenExamples

@@ -1,9 +1,13 @@
 //! What may stand, put in words.
 ghost use Rattle.std.specs.Prelude.{◌≡◌, [], ◌∷◌, ◌++◌, OnOk, codes, map};
 ghost use Rattle.sap_expect.specs.Kinds.{a_formula, a_name, a_process, a_term, a_zero, an_arity, an_item, capital_name, kind_of, quoted_name, small_name, this_mark, this_name};
+ghost use Rattle.sap_expect.specs.Expected.{expected_of};
+ghost use Rattle.sap_expect.specs.ExpectedText.{expected_text, limit_text};
 ghost use Rattle.sap_expect.specs.KindText.{between, kind_text, others_text, wanted_text};
 
+use crate::expected::Expected;
 use crate::kind::WordKind;
+use crate::nested::Nested;
 use sap_terms::Mem;
 use sap_text::Text;
 
@@ -68,10 +72,9 @@ fn push_kinds(text: &mut Text, first: WordKind, others: &[WordKind]) -> Result<(
     Ok(())
 }
 
-/// Puts last what may stand, as `Here may stand: , or )`, with a comma between kinds, and before the last `or`. Want of memory is the only
-/// error.
+// Puts last what may stand, with a comma between kinds, and before the last `or`.
 #[tactic(auto, using(crate::proofs::KindTexts::whole_put))]
-pub fn push_wanted(text: &mut Text, kinds: &[WordKind]) -> Result<(), Mem>
+fn push_wanted(text: &mut Text, kinds: &[WordKind]) -> Result<(), Mem>
     ensures { OnOk result (text.new ≡ text.old ++ wanted_text (map kind_of kinds.now)) }
 {
     match kinds.split_first() {
@@ -80,6 +83,27 @@ pub fn push_wanted(text: &mut Text, kinds: &[WordKind]) -> Result<(), Mem>
             push_kinds(text, *first, others)?;
             Ok(())
         }
+    }
+}
+
+fn limit_text(nested: Nested) -> &'static str
+    ensures { result.now ≡ limit_text nested }
+{
+    match nested {
+        Nested::Term => "No term has more than 100 levels",
+        Nested::Process => "No process has more than 300 levels",
+        Nested::Formula => "No formula has more than 100 levels",
+    }
+}
+
+/// Puts last what is expected: what may stand, as `Here may stand: , or )`, or the limit of levels, as `No term has more than 100 levels`.
+/// Want of memory is the only error.
+pub fn push_expected(text: &mut Text, expected: &Expected) -> Result<(), Mem>
+    ensures { OnOk result (text.new ≡ text.old ++ expected_text (expected_of expected.now)) }
+{
+    match expected {
+        Expected::OneOf(kinds) => push_wanted(text, kinds.as_slice()),
+        Expected::FewerLevels(nested) => text.push_bytes(limit_text(*nested).as_bytes()),
     }
 }
 

@@ -4,7 +4,7 @@ ghost use Rattle.sap_grammar.specs.Words.{Word};
 ghost use Rattle.sap_expect.specs.FileTable.{Open, Reads, Takes, file};
 ghost use Rattle.sap_expect.specs.FileWords.{IsFileWords};
 ghost use Rattle.sap_expect.specs.FirstWrong.{IsFirstWrong};
-ghost use Rattle.sap_expect.specs.LevelExamples.{AreTaken};
+ghost use Rattle.sap_expect.specs.Levels.{AreTaken};
 ghost use Rattle.sap_expect.specs.ItemExamples.{another_attribute, another_builtin, another_privacy, behind_nil, capital_symbol, empty_use, endless, large_arity, last_comma, name_apart, no_binders, no_time, one_else, one_inserted, one_part, persistent_act, reserved_name, signed_entry, small_event, three_terms, two_elses, two_equivalences, two_times, unclosed, with_arguments, with_comma};
 
 /// A law: by the table of a file's words one thing at most is wanted behind a word, with some levels, and whatever is wanted behind words

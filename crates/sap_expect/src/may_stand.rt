@@ -1,11 +1,12 @@
 //! What may stand behind words of a file.
-ghost use Rattle.std.specs.Prelude.{◌≡◌, List, [], ◌∷◌, ◌++◌, IfOk, OnOk, MatchOption, map};
+ghost use Rattle.std.specs.Prelude.{◌≡◌, ◌≤◌, List, [], ◌∷◌, ◌++◌, IfOk, OnOk, MatchOption, length, map, take};
 ghost use Rattle.std.specs.Bool.{Decides};
 ghost use Rattle.sap_text.specs.Spans.{AreTokens};
-ghost use Rattle.sap_grammar.specs.Words.{Word, words_of};
+ghost use Rattle.sap_grammar.specs.Words.{words_of};
 ghost use Rattle.sap_expect.specs.Kinds.{kind_of, kinds as all_kinds, name_kinds, sign_kinds, wide_kinds, word_kinds};
-ghost use Rattle.sap_expect.specs.MayStand.{IsWantedList, MayStand};
-ghost use Rattle.sap_expect.specs.code.Going.{AreRowsNamed, Behind, CanGo, Each, IsRowNamed, KindRow as Row, StandsAt, kind_row_of, kind_rows, many_of, wide_words, witness_of, witnesses_of};
+ghost use Rattle.sap_expect.specs.FileWords.{IsFileWords};
+ghost use Rattle.sap_expect.specs.FirstWrong.{GoOn};
+ghost use Rattle.sap_expect.specs.code.Going.{AreRowsNamed, Behind, CanGo, Each, IsRowNamed, KindRow as Row, StandsBehind, kind_row_of, kind_rows, many_of, wide_words, witness_of, witnesses_of};
 ghost use Rattle.sap_expect.specs.code.WantedView.{stacked};
 
 use crate::kind::WordKind;
@@ -17,7 +18,7 @@ use sap_terms::Mem;
 use sap_text::{Token, spans_are_tokens};
 use std::alloc::Global;
 
-fn copy_of(alloc: Global, walk: &Walk) -> Result<Walk, Mem>
+pub(crate) fn copy_of(alloc: Global, walk: &Walk) -> Result<Walk, Mem>
     ensures { IfOk result (λ w. (w.levels ≡ walk.now.levels) × (w.stack.items ≡ walk.now.stack.items)) }
 {
     let mut stack = Vec::new(alloc);
@@ -41,7 +42,7 @@ fn goes_on(alloc: Global, walk: &Walk, word: Witness) -> Result<bool, Mem>
         line: 1,
     };
     let mut on = copy_of(alloc, walk)?;
-    let taken = on.take(bytes, token)?;
+    let taken = on.take(bytes, token, None)?;
     Ok(taken)
 }
 
@@ -165,7 +166,7 @@ fn push_named(
 }
 
 // The kinds that are named where the walk is.
-fn named_kinds(alloc: Global, walk: &Walk) -> Result<Vec<WordKind>, Mem>
+pub(crate) fn named_kinds(alloc: Global, walk: &Walk) -> Result<Vec<WordKind>, Mem>
     ensures { IfOk result (λ v. AreRowsNamed walk.now.levels (stacked walk.now.stack.items) (kind_rows [] all_kinds) (map kind_of v.items)) }
 {
     let mut list = Vec::new(alloc);
@@ -176,11 +177,17 @@ fn named_kinds(alloc: Global, walk: &Walk) -> Result<Vec<WordKind>, Mem>
     Ok(list)
 }
 
-// A walk behind the tokens, if they go on to a file's.
-fn walk_over(alloc: Global, bytes: &[u8], tokens: &[Token]) -> Result<Option<Walk>, Mem>
-    requires { AreTokens bytes.now tokens.now }
-    ensures { IfOk result (λ o. MatchOption o ((w : Word) → MayStand (words_of bytes.now tokens.now) w → ⊥)
-        (λ walk. StandsAt (words_of bytes.now tokens.now) walk.levels (stacked walk.stack.items))) }
+// A walk behind so many of the tokens, if they go on to a file's.
+pub(crate) fn walk_over(
+    alloc: Global,
+    bytes: &[u8],
+    tokens: &[Token],
+    count: usize,
+) -> Result<Option<Walk>, Mem>
+    requires tokens { AreTokens bytes.now tokens.now }
+    requires inside { count ≤ length tokens.now }
+    ensures { IfOk result (λ o. MatchOption o (GoOn IsFileWords (take count (words_of bytes.now tokens.now)) → ⊥)
+        (λ walk. StandsBehind (words_of bytes.now tokens.now) count walk.levels (stacked walk.stack.items))) }
 {
     spans_are_tokens();
     let mut walk = Walk {
@@ -188,25 +195,10 @@ fn walk_over(alloc: Global, bytes: &[u8], tokens: &[Token]) -> Result<Option<Wal
         stack: Vec::new(alloc),
     };
     walk.stack.push((Wanted::A(Part::File, Limit::Same), 0))?;
-    for k in 0..tokens.len() {
-        if !walk.take(bytes, tokens[k])? {
+    for k in 0..count {
+        if !walk.take(bytes, tokens[k], None)? {
             return Ok(None);
         }
     }
     Ok(Some(walk))
-}
-
-/// The kinds of the words that may stand behind these, in the order of one list: all words of such a kind may, and a kind that is part of
-/// one that is named isn't named again. None where no file begins with the words. Want of memory is the only error.
-pub fn wanted_kinds(alloc: Global, bytes: &[u8], tokens: &[Token]) -> Result<Vec<WordKind>, Mem>
-    requires { AreTokens bytes.now tokens.now }
-    ensures { IfOk result (λ v. IsWantedList (words_of bytes.now tokens.now) (map kind_of v.items)) }
-{
-    match walk_over(alloc, bytes, tokens)? {
-        None => Ok(Vec::new(alloc)),
-        Some(walk) => {
-            let list = named_kinds(alloc, &walk)?;
-            Ok(list)
-        }
-    }
 }

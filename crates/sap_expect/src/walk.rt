@@ -5,12 +5,13 @@ ghost use Rattle.sap_text.specs.Spans.{AreTokens};
 ghost use Rattle.sap_text.specs.declared.token.Token.{Token};
 ghost use Rattle.sap_grammar.specs.Words.{is_lower, is_upper, word_of, words_of};
 ghost use Rattle.sap_expect.specs.declared.wanted.Limit.{Limit};
-ghost use Rattle.sap_expect.specs.FileTable.{part as part_of, all_opened, changed, holds, is_arity, is_such, is_wanted, limit as limit_of, opened, otherwise, row_among, rows};
+ghost use Rattle.sap_expect.specs.FileTable.{part as part_of, all_opened, changed, holds, is_arity, is_such, is_this, is_wanted, levels_in, limit as limit_of, may_hold, opened, otherwise, passes, row_among, rows};
 ghost use Rattle.sap_expect.specs.FileWords.{IsFileWords};
 ghost use Rattle.sap_expect.specs.FirstWrong.{IsFirstWrong};
 ghost use Rattle.sap_expect.specs.code.Steps.{Stepped, Taken};
-ghost use Rattle.sap_expect.specs.code.WantedView.{all_wanted, open_of, row_of, stacked, turn_there, wanted as view};
+ghost use Rattle.sap_expect.specs.code.WantedView.{all_wanted, counting, open_of, row_of, stacked, turn_there, wanted as view};
 
+use crate::nested::Nested;
 use crate::table;
 use crate::table::{Row, Turn};
 use crate::wanted::{Change, Limit, Part, Test, Wanted};
@@ -205,6 +206,59 @@ fn holds(test: Test, most: u64, levels: u64) -> bool
     }
 }
 
+// What the tests of a part count levels of.
+fn levels_in(part: Part) -> Option<Nested>
+    ensures { result ≡ levels_in part }
+{
+    match part {
+        Part::Bars | Part::Sequence => Some(Nested::Process),
+        Part::Term | Part::Terms | Part::MoreParts | Part::Atom => Some(Nested::Term),
+        Part::MoreEquivalence
+        | Part::MoreImplication
+        | Part::MoreDisjunction
+        | Part::MoreConjunction
+        | Part::Formula => Some(Nested::Formula),
+        _ => None,
+    }
+}
+
+fn is_this(nested: Nested, other: Option<Nested>) -> bool
+    ensures { result ≡ is_this nested other }
+{
+    match (nested, other) {
+        (Nested::Term, Some(Nested::Term)) => true,
+        (Nested::Process, Some(Nested::Process)) => true,
+        (Nested::Formula, Some(Nested::Formula)) => true,
+        _ => false,
+    }
+}
+
+// Whether a part may begin so with some levels.
+fn may_hold(test: Test) -> bool
+    ensures { result ≡ may_hold test }
+{
+    match test {
+        Test::Never => false,
+        _ => true,
+    }
+}
+
+// Whether a part may begin so, where the levels of what is spared don't count.
+fn passes(spared: Option<Nested>, part: Part, test: Test, most: u64, levels: u64) -> bool
+    ensures { result ≡ passes (counting spared) part test most levels }
+{
+    match spared {
+        None => holds(test, most, levels),
+        Some(spared) => {
+            if is_this(spared, levels_in(part)) {
+                may_hold(test)
+            } else {
+                holds(test, most, levels)
+            }
+        }
+    }
+}
+
 fn deeper(levels: u64, before: u64) -> u64
     ensures { result ≡ changed Change.Deepest levels before }
 {
@@ -267,20 +321,22 @@ pub(crate) struct Walk {
 }
 
 impl Walk {
-    // A step with a part that is wanted: whether the token is taken or wrong, or nothing yet, where the part is something else.
+    // A step with a part that is wanted: whether the token is taken or wrong, or nothing yet, where the part is something else. The levels
+    // of what is spared don't count.
     fn step_part(
         &mut self,
         bytes: &[u8],
         token: Token,
+        spared: Option<Nested>,
         part: Part,
         most: u64,
     ) -> Result<Option<bool>, Mem>
-        ensures { IfOk result (λ o. (l : Limit) → Stepped self.old.levels
+        ensures { IfOk result (λ o. (l : Limit) → Stepped (counting spared) self.old.levels
             ((part_of part l, most) ∷ stacked self.old.stack.items) (word_of bytes.now token)
             self.new.levels (stacked self.new.stack.items) o) }
     {
         if let Some((test, rest)) = row_among(bytes, token, rows(part)) {
-            if !holds(test, most, self.levels) {
+            if !passes(spared, part, test, most, self.levels) {
                 return Ok(Some(false));
             }
             push_all(&mut self.stack, rest, most, self.levels)?;
@@ -288,7 +344,7 @@ impl Walk {
         }
         match otherwise(part) {
             Some((test, other)) => {
-                if !holds(test, most, self.levels) {
+                if !passes(spared, part, test, most, self.levels) {
                     return Ok(Some(false));
                 }
                 push_all(&mut self.stack, other, most, self.levels)?;
@@ -299,14 +355,19 @@ impl Walk {
     }
 
     // A step with what is wanted on top.
-    fn step(&mut self, bytes: &[u8], token: Token) -> Result<Option<bool>, Mem>
-        ensures { IfOk result (λ o. Stepped self.old.levels (stacked self.old.stack.items)
+    fn step(
+        &mut self,
+        bytes: &[u8],
+        token: Token,
+        spared: Option<Nested>,
+    ) -> Result<Option<bool>, Mem>
+        ensures { IfOk result (λ o. Stepped (counting spared) self.old.levels (stacked self.old.stack.items)
             (word_of bytes.now token) self.new.levels (stacked self.new.stack.items) o) }
     {
         match self.stack.pop() {
             None => Ok(Some(false)),
             Some((wanted, number)) => match wanted {
-                Wanted::A(part, _) => self.step_part(bytes, token, part, number),
+                Wanted::A(part, _) => self.step_part(bytes, token, spared, part, number),
                 Wanted::Level(change) => {
                     self.levels = changed(change, self.levels, number)?;
                     Ok(None)
@@ -316,13 +377,18 @@ impl Walk {
         }
     }
 
-    // Takes the token, where it may stand next; what is wanted behind it is open then.
-    pub(crate) fn take(&mut self, bytes: &[u8], token: Token) -> Result<bool, Mem>
-        ensures { IfOk result (λ b. Taken self.old.levels (stacked self.old.stack.items)
+    // Takes the token, where it may stand next, if the levels of what is spared don't count; what is wanted behind it is open then.
+    pub(crate) fn take(
+        &mut self,
+        bytes: &[u8],
+        token: Token,
+        spared: Option<Nested>,
+    ) -> Result<bool, Mem>
+        ensures { IfOk result (λ b. Taken (counting spared) self.old.levels (stacked self.old.stack.items)
             (word_of bytes.now token) self.new.levels (stacked self.new.stack.items) b) }
     {
         loop {
-            if let Some(taken) = self.step(bytes, token)? {
+            if let Some(taken) = self.step(bytes, token, spared)? {
                 return Ok(taken);
             }
         }
@@ -344,7 +410,7 @@ pub fn first_wrong(alloc: Global, bytes: &[u8], tokens: &[Token]) -> Result<Opti
     };
     walk.stack.push((Wanted::A(Part::File, Limit::Same), 0))?;
     for k in 0..tokens.len() {
-        if !walk.take(bytes, tokens[k])? {
+        if !walk.take(bytes, tokens[k], None)? {
             return Ok(Some(k));
         }
     }

@@ -1,13 +1,14 @@
 -- What may stand, as the walk tries it: by words that stand for all of their kind.
-use Rattle.std.specs.Prelude.{◌≡◌, ℕ, Bool, true, ◌&&◌, codes, length, List, [], ◌∷◌, ◌++◌, map}
+use Rattle.std.specs.Prelude.{◌≡◌, ℕ, Bool, true, ◌&&◌, codes, length, List, [], ◌∷◌, ◌++◌, map, take}
 use Rattle.std.specs.Borrow.{Bor}
 use Rattle.std.specs.List.{filter, list_all, list_any}
 use Rattle.std.specs.Str.{bytes_eq}
 use Rattle.sap_text.specs.declared.token.Kind.{Kind as TokenKind}
 use Rattle.sap_grammar.specs.Words.{Word, mark, name, number, quoted, word_of}
-use Rattle.sap_expect.specs.FileTable.{Open, Takes, Wanted, sign, word}
+use Rattle.sap_expect.specs.FileTable.{Counting, Open, TakesBy, Wanted, every_level, file, sign, word}
 use Rattle.sap_expect.specs.Kinds.{Kind, a_formula, a_name, a_process, a_term, a_zero, an_arity, an_item, capital_name, file_marks, file_names, formula_marks, is_of, item_marks, kind_of, process_marks, quoted_name, small_name, term_marks, this_mark, this_name}
 use Rattle.sap_expect.specs.Letters.{IsLettered}
+use Rattle.sap_expect.specs.Levels.{AreTaken}
 use Rattle.sap_expect.specs.MayStand.{MayStand}
 use Rattle.sap_expect.specs.declared.kind.WordKind as code
 
@@ -16,9 +17,13 @@ abbrev pub Each : {X : Type 0} → (X → Type 0) → List X → Type 0
 Each Is [] = Unit {0}
 Each Is (x ∷ xs) = Is x × Each Is xs
 
--- the word is taken
+-- the word is taken, where levels count so
+abbrev pub CanGoBy : Counting → ℕ → List Open → Word → Type 0
+CanGoBy s n vs w = (k : ℕ) × (next : List Open) × TakesBy s n vs w k next
+
+-- where all count
 abbrev pub CanGo : ℕ → List Open → Word → Type 0
-CanGo n vs w = (k : ℕ) × (next : List Open) × Takes n vs w k next
+CanGo = CanGoBy every_level
 
 -- words of a kind that stand for all
 abbrev pub small_one : Word
@@ -109,3 +114,7 @@ pub record StandsAt (ws : List Word) (n : ℕ) (vs : List Open) : Type 0 where
   pub only_listed : listed vs ≡ true
   pub on : (w : Word) → IsLettered w → CanGo n vs w → MayStand ws w
   pub back : (w : Word) → MayStand ws w → CanGo n vs w
+
+-- so of the first words of these, and they are taken
+abbrev pub StandsBehind : List Word → ℕ → ℕ → List Open → Type 0
+StandsBehind ws k n vs = StandsAt (take k ws) n vs × AreTaken 0 file (take k ws) n vs

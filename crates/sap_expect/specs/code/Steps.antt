@@ -4,7 +4,7 @@ use Rattle.std.specs.Prelude.{◌<◌, ◌+◌, ℕ, Bool, true, false, List, []
 use Rattle.sap_grammar.specs.Words.{Word}
 use Rattle.sap_expect.specs.declared.wanted.Part.{Part}
 use Rattle.sap_expect.specs.declared.wanted.Part.TheVariants.{MoreBuiltins, MoreFunctions, Privacy, Process, Facts, Terms, Equivalence, Implication, Disjunction, Conjunction, Formula, Arguments, Then, Else, Application, Truth, MoreBinders}
-use Rattle.sap_expect.specs.FileTable.{Open, Takes, Wanted, part}
+use Rattle.sap_expect.specs.FileTable.{Counting, Open, TakesBy, Wanted, part}
 
 -- more than what the part is otherwise
 abbrev pub part_weight : Part → ℕ
@@ -35,21 +35,21 @@ abbrev pub total : List Open → ℕ
 total [] = 0
 total (v ∷ vs) = weight v.0 + total vs
 
--- the word goes on where the one is wanted as where the other is
-pub record SameTakes (n : ℕ) (before : List Open) (w : Word) (k : ℕ) (after : List Open) : Type 0 where
-  pub on : (j : ℕ) (next : List Open) → Takes k after w j next → Takes n before w j next
-  pub back : (j : ℕ) (next : List Open) → Takes n before w j next → Takes k after w j next
+-- the word goes on where the one is wanted as where the other is, where levels count so
+pub record SameTakes (s : Counting) (n : ℕ) (before : List Open) (w : Word) (k : ℕ) (after : List Open) : Type 0 where
+  pub on : (j : ℕ) (next : List Open) → TakesBy s k after w j next → TakesBy s n before w j next
+  pub back : (j : ℕ) (next : List Open) → TakesBy s n before w j next → TakesBy s k after w j next
 
 -- the word is taken, or it is wrong
-abbrev pub Taken : ℕ → List Open → Word → ℕ → List Open → Bool → Type 0
-Taken n before w k after true = Takes n before w k after
-Taken n before w k after false = (j : ℕ) (next : List Open) → Takes n before w j next → ⊥
+abbrev pub Taken : Counting → ℕ → List Open → Word → ℕ → List Open → Bool → Type 0
+Taken s n before w k after true = TakesBy s n before w k after
+Taken s n before w k after false = (j : ℕ) (next : List Open) → TakesBy s n before w j next → ⊥
 
 -- or nothing yet, and less is wanted that may be something else
-pub record IsNothingYet (n : ℕ) (before : List Open) (w : Word) (k : ℕ) (after : List Open) : Type 0 where
-  pub same : SameTakes n before w k after
+pub record IsNothingYet (s : Counting) (n : ℕ) (before : List Open) (w : Word) (k : ℕ) (after : List Open) : Type 0 where
+  pub same : SameTakes s n before w k after
   pub less : total after < total before
 
-abbrev pub Stepped : ℕ → List Open → Word → ℕ → List Open → Option Bool → Type 0
-Stepped n before w k after (Some b) = Taken n before w k after b
-Stepped n before w k after None = IsNothingYet n before w k after
+abbrev pub Stepped : Counting → ℕ → List Open → Word → ℕ → List Open → Option Bool → Type 0
+Stepped s n before w k after (Some b) = Taken s n before w k after b
+Stepped s n before w k after None = IsNothingYet s n before w k after

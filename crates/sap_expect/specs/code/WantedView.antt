@@ -1,11 +1,12 @@
 -- What the code wants, as a plain value.
-use Rattle.std.specs.Prelude.{ℕ, List, map, Option, reverse}
+use Rattle.std.specs.Prelude.{ℕ, List, map, Option, Some, None, reverse}
 use Rattle.std.specs.Borrow.{Bor}
 use Rattle.std.specs.Option.{option_map}
+use Rattle.sap_expect.specs.declared.nested.Nested.{Nested}
 use Rattle.sap_expect.specs.declared.wanted.Test.{Test}
 use Rattle.sap_expect.specs.declared.wanted.Wanted as code
 use Rattle.sap_expect.specs.declared.wanted.Wanted.TheVariants.{Mark, Named, Name, Lower, Upper, Quoted, Zero, Arity, A, Level}
-use Rattle.sap_expect.specs.FileTable.{Open, Row, Turn, Wanted, any_name, arity, capital, in_quotes, level, nil, part, sign, small, word}
+use Rattle.sap_expect.specs.FileTable.{Counting, Open, Row, Turn, Wanted, all_but, any_name, arity, capital, every_level, in_quotes, level, nil, part, sign, small, word}
 
 abbrev pub wanted : code.Wanted → Wanted
 wanted (Mark m) = sign m.now
@@ -31,6 +32,11 @@ turn_of t = (t.0, all_wanted t.1.now)
 
 abbrev pub turn_there : Option (Test × Bor (List code.Wanted)) → Option Turn
 turn_there o = option_map turn_of o
+
+-- whose levels don't count
+abbrev pub counting : Option Nested → Counting
+counting None = every_level
+counting (Some c) = all_but c
 
 -- of what is open; of a stack, whose last is topmost
 abbrev pub open_of : (code.Wanted × ℕ) → Open

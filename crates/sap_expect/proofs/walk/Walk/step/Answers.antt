@@ -1,6 +1,7 @@
 use Rattle.std.proofs.Common.{[], ◌∷◌, ◌++◌, ◌∙◌, ap}
 use Rattle.sap_grammar.specs.Words.{word_of}
 use Rattle.sap_expect.specs.declared.wanted.Wanted as code
+use Rattle.sap_expect.specs.code.WantedView.{counting}
 use Rattle.sap_expect.proofs.Turns.{popped, popped_level}
 use Rattle.sap_expect.proofs.walk.Walk.step.Goals as goal
 
@@ -11,5 +12,5 @@ returns-in_ok-self-in-Level c =
 
 pub returns-in_default : goal.returns-in_default
 returns-in_default c =
-    popped c.args.self.now.levels c.args.self.now.stack.items c.pop.new.self.items c.in-Some.wanted c.in-Some.number (word_of c.args.bytes.now c.args.token) c.is_wanted.result
+    popped (counting c.args.spared) c.args.self.now.levels c.args.self.now.stack.items c.pop.new.self.items c.in-Some.wanted c.in-Some.number (word_of c.args.bytes.now c.args.token) c.is_wanted.result
     c.in-Some.ensures.items c.in_default.not-A c.in_default.not-Level c.is_wanted.ensures
