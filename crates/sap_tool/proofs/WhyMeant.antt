@@ -4,7 +4,7 @@ use Rattle.std.specs.Prelude.{IfOk}
 use Rattle.sap_read.specs.Files.{FileContent, IsRead}
 use Rattle.sap_read.specs.declared.fault.ReadFault.{ReadFault}
 use Rattle.sap_refusals.specs.Refusals.{fault_text, refused_line}
-use Rattle.sap_where.specs.Explained.{IsExplanation}
+use Rattle.sap_explain.specs.Explained.{IsExplanation}
 use Rattle.sap_replay.specs.AcceptedFile.{most_bytes, IsRefusedWith, too_long, unread}
 use Rattle.sap_tool.specs.WhyTexts.{IsWhyText, of_file, of_length, of_fault, IsToldWhy, told_accepted, told_refused, accepted_text, long_text}
 use Rattle.sap_tool.proofs.Refused.{OneReading, one_cause, not_refused, same_fault}

@@ -3,8 +3,8 @@ use Rattle.std.specs.Prelude.{◌≡◌, ◌<◌, ◌≤◌, ℕ, codes, List, [
 use Rattle.sap_read.specs.Files.{FileContent, IsRead}
 use Rattle.sap_read.specs.declared.fault.ReadFault.{ReadFault}
 use Rattle.sap_refusals.specs.Refusals.{fault_text, refused_line}
-use Rattle.sap_where.specs.Advice.{length_advice}
-use Rattle.sap_where.specs.Explained.{IsExplanation}
+use Rattle.sap_explain.specs.Advice.{length_advice}
+use Rattle.sap_explain.specs.Explained.{IsExplanation}
 use Rattle.sap_replay.specs.AcceptedFile.{most_bytes, IsAcceptedFile, IsRefusedWith}
 
 -- what is told of an accepted file

@@ -1,18 +1,27 @@
 //! Why a file is refused: its cause, where this stands, and what to change; or that the file is accepted.
 
-ghost use Rattle.std.specs.Prelude.{◌≡◌, ◌≤◌, ◌++◌, ℕ, List, length, IfOk};
+ghost use Rattle.std.specs.Prelude.{◌≡◌, ◌≤◌, Err, length, IfOk};
+ghost use Rattle.sap_process.specs.Proc.{proc};
+ghost use Rattle.sap_read.specs.FileExpansions.{IsFileExpansion};
+ghost use Rattle.sap_read.specs.FileTokens.{HasTokens};
+ghost use Rattle.sap_read.specs.Files.{IsRead};
+ghost use Rattle.sap_read.specs.SaidFiles.{IsSaidFile, IsUnrefused};
+ghost use Rattle.sap_read.specs.WrittenFiles.{IsWrittenFile};
 ghost use Rattle.sap_read.specs.declared.fault.ReadFault.TheVariants as faults;
-ghost use Rattle.sap_refusals.specs.Refusals.{fault_text, refused_line};
 ghost use Rattle.sap_replay.specs.AcceptedFile.{most_bytes};
 ghost use Rattle.sap_tool.specs.WhyTexts.{IsWhyText, accepted_text, long_text};
-ghost use Rattle.sap_where.specs.Explained.{IsExplanation};
+ghost use Rattle.sap_read_places.specs.Reached.{IsReached};
 
-use sap_read::{ReadFault, read_file_boxed};
+use sap_explain::{Reached, length_advice, push_explanation};
+use sap_process::Process;
+use sap_read::{
+    ReadFault, SaidFile, WrittenFile, check_said, check_written, file_process, file_tokens,
+    said_file, written_of,
+};
 use sap_refusals::{file_line, long_file_line};
 use sap_replay::MOST_BYTES;
 use sap_terms::Mem;
-use sap_text::Text;
-use sap_where::{length_advice, push_explanation};
+use sap_text::{Text, Token};
 use std::alloc::Global;
 
 /// Whether the bytes are accepted, or why not.
@@ -36,14 +45,81 @@ fn too_long(alloc: Global) -> Result<Text, Mem>
     Ok(text)
 }
 
-/// Whether bytes that aren't too many are read as a file, or why not.
+/// Whether bytes that aren't too many are read as a file, or why not. The file is read in stages, each of which is lent to what tells
+/// where a cause stands, so that nothing is read twice.
 fn read(alloc: Global, bytes: &[u8]) -> Result<Text, Mem>
     requires { length bytes.now ≤ most_bytes }
     ensures { IfOk result (IsWhyText bytes.now) }
 {
-    match read_file_boxed(alloc, bytes) {
-        Ok(_) => accepted(alloc),
-        Err(fault) => refused(alloc, bytes, &fault),
+    match file_tokens(alloc, bytes) {
+        Ok(tokens) => read_items(alloc, bytes, tokens.as_slice()),
+        Err(fault) => refused(alloc, bytes, &[], Reached::Bytes, &fault),
+    }
+}
+
+/// The same of the tokens of such bytes.
+fn read_items(alloc: Global, bytes: &[u8], tokens: &[Token]) -> Result<Text, Mem>
+    requires short { length bytes.now ≤ most_bytes }
+    requires tokens { HasTokens bytes.now tokens.now }
+    ensures { IfOk result (IsWhyText bytes.now) }
+{
+    match said_file(alloc, bytes, tokens) {
+        Ok(said) => judge_items(alloc, bytes, tokens, said),
+        Err(fault) => refused(alloc, bytes, tokens, Reached::Tokens, &fault),
+    }
+}
+
+/// The same of what the items of such a file say.
+fn judge_items(alloc: Global, bytes: &[u8], tokens: &[Token], said: SaidFile) -> Result<Text, Mem>
+    requires short { length bytes.now ≤ most_bytes }
+    requires tokens { HasTokens bytes.now tokens.now }
+    requires said { IsSaidFile bytes.now said }
+    ensures { IfOk result (IsWhyText bytes.now) }
+{
+    match check_said(alloc, &said) {
+        Ok(()) => judge_uses(alloc, bytes, tokens, said),
+        Err(fault) => refused(alloc, bytes, tokens, Reached::Items(&said), &fault),
+    }
+}
+
+/// The same where nothing that they say refuses it.
+fn judge_uses(alloc: Global, bytes: &[u8], tokens: &[Token], said: SaidFile) -> Result<Text, Mem>
+    requires short { length bytes.now ≤ most_bytes }
+    requires tokens { HasTokens bytes.now tokens.now }
+    requires said { IsSaidFile bytes.now said }
+    requires unrefused { IsUnrefused said }
+    ensures { IfOk result (IsWhyText bytes.now) }
+{
+    let written = written_of(alloc, said)?;
+    match file_process(alloc, &written) {
+        Ok(process) => judge_process(alloc, bytes, tokens, &written, &process),
+        Err(fault) => refused(alloc, bytes, tokens, Reached::Written(&written), &fault),
+    }
+}
+
+/// The same of what is written in such a file and its process.
+fn judge_process(
+    alloc: Global,
+    bytes: &[u8],
+    tokens: &[Token],
+    written: &WrittenFile,
+    process: &Process,
+) -> Result<Text, Mem>
+    requires short { length bytes.now ≤ most_bytes }
+    requires tokens { HasTokens bytes.now tokens.now }
+    requires written { IsWrittenFile bytes.now written.now }
+    requires process { IsFileExpansion written.now (proc process.now) }
+    ensures { IfOk result (IsWhyText bytes.now) }
+{
+    match check_written(alloc, written, process) {
+        Ok(()) => accepted(alloc),
+        Err(fault) => refused(
+            alloc,
+            bytes,
+            tokens,
+            Reached::Expanded(written, process),
+            &fault,
+        ),
     }
 }
 
@@ -57,11 +133,19 @@ fn accepted(alloc: Global) -> Result<Text, Mem>
 }
 
 /// The line with this cause, where it stands, and what to change. Want of memory is none, and has no such text.
-fn refused(alloc: Global, bytes: &[u8], fault: &ReadFault) -> Result<Text, Mem>
-    ensures { IfOk result (λ text. (fault.now ≡ faults.Mem → ⊥) × ((t : List ℕ)
-        × (text ≡ refused_line (fault_text fault.now) ++ t) × IsExplanation bytes.now fault.now t)) }
+fn refused(
+    alloc: Global,
+    bytes: &[u8],
+    tokens: &[Token],
+    reached: Reached<'_>,
+    fault: &ReadFault,
+) -> Result<Text, Mem>
+    requires short { length bytes.now ≤ most_bytes }
+    requires refused { (fault.now ≡ faults.Mem → ⊥) → IsRead bytes.now (Err fault.now) }
+    requires reached { (fault.now ≡ faults.Mem → ⊥) → IsReached bytes.now tokens.now fault.now reached }
+    ensures { IfOk result (IsWhyText bytes.now) }
 {
     let mut text = file_line(alloc, fault)?;
-    push_explanation(alloc, &mut text, bytes, fault)?;
+    push_explanation(alloc, &mut text, bytes, tokens, reached, fault)?;
     Ok(text)
 }

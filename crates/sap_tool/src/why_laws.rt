@@ -4,8 +4,8 @@ ghost use Rattle.std.specs.Prelude.{◌≡◌, ℕ, codes, List, [], ◌∷◌};
 ghost use Rattle.sap_tool.specs.Commands.{Allows, Input, Refuses, RefusesRun, TakesRun, and_run, explain, run_alone, spelled};
 ghost use Rattle.sap_tool.specs.WhyTexts.{IsWhyText};
 
+use sap_explain::one_explanation;
 use sap_read::one_file;
-use sap_where::one_explanation;
 
 /// A law: of some bytes one text is told.
 pub fn one_why_text()

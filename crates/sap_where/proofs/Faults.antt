@@ -1,6 +1,6 @@
 -- A fault of bytes stands in them; a header that is refused isn't there; a parameter for which a file is refused stands twice, and a declaration clashes.
-use Rattle.std.proofs.Common.{◌≡◌, ◌≤◌, ◌<◌, ◌+◌, ℕ, suc, List, [], ◌∷◌, ◌++◌, length, refl, arith, ap, sym, subst, ◌∙◌, Some, None, ◌⊎◌, inl, inr, ⊎_elim}
-use Rattle.std.specs.Prelude.{Result, Ok, Err, codes, ⊤, Bool, true, false, Option, IfSome, MatchOption, option_map, if◌then◌else◌}
+use Rattle.std.proofs.Common.{◌≡◌, ◌≤◌, ◌<◌, ◌+◌, ℕ, suc, List, [], ◌∷◌, ◌++◌, length, refl, arith, ap, sym, subst, ◌∙◌, Some, None}
+use Rattle.std.specs.Prelude.{Result, Ok, Err, codes, ⊤, Option, IfSome, MatchOption}
 use Rattle.std.proofs.lemmas.Grind.{common_steps}
 use Rattle.sap_text.specs.declared.fault.Lex.{Lex}
 use Rattle.sap_text.specs.declared.token.Kind.{Kind}
@@ -10,29 +10,31 @@ use Rattle.sap_text.specs.Tokens.{IsFault, bad_byte, bad_content, open_comment, 
 use Rattle.sap_grammar.specs.Words.{Word, mark, name, word_of, words_of}
 use Rattle.sap_grammar.specs.Cut.{Placed, placed, IsHeader}
 use Rattle.sap_locks.specs.Annotation.{without, over}
-use Rattle.sap_statements.specs.declared.statement.Statement.{Statement}
 use Rattle.sap_terms.specs.declared.limits.TheConstants.{MOST_FILE_NAME_BYTES}
 use Rattle.sap_terms.specs.Signature.{pairs_alone}
 use Rattle.sap_grammar.specs.Declarations.{Declaration}
 use Rattle.sap_grammar.specs.Signatures.{clash_from}
-use Rattle.sap_read.specs.Item.{Body, Standing, bodies, declarations, signature_of, statements}
+use Rattle.sap_read.specs.Item.{Standing, bodies, signature_of}
 use Rattle.sap_uses.specs.declared.fault.MacroFault.{MacroFault}
 use Rattle.sap_uses.specs.declared.fault.MacroFault.TheVariants as uses
-use Rattle.sap_read.specs.Causes.{causes, fault_of_uses, first_of}
+use Rattle.sap_restrict.specs.Restrictions.{is_generated}
+use Rattle.sap_read.specs.Causes.{fault_of_uses}
 use Rattle.sap_read.specs.FileProcess.{IsUnexpanded}
 use Rattle.sap_read.specs.ItemGrammar.{AreItems}
 use Rattle.sap_read.specs.Files.{AreTokens, FileContent, IsParted, IsRead, no_tokens, no_header, no_item, refused, unexpanded, ill, locked, unchecked, accepted}
 use Rattle.sap_read.specs.declared.fault.ReadFault.{ReadFault}
 use Rattle.sap_read.specs.declared.fault.ReadFault.TheVariants.{Mem, Lex as LexFault, Header, Syntax, NoProcess, TwoProcesses, UnknownProcess, DuplicateName, FunctionClash, Parameters, Arguments, TooMany, TooDeep, Large, Flawed, Ill, Lock, Formula}
-use Rattle.sap_where.specs.declared.told.Told.{Told}
-use Rattle.sap_where.specs.ReadPlaces.{IsReadCause}
-use Rattle.sap_where.specs.Told.{HasPlace, IsPlaceOf, bytes_have, by_words, declarations_have, header_has, item_has, parallels_have, parameters_have, reading_has, unlocks_have}
 use Rattle.sap_where.specs.Parameters.{IsParameter}
-use Rattle.sap_where.specs.Where.{HoldsOnce, StartsFile, at_byte, offset_of, one_byte}
+use Rattle.sap_stretches.specs.declared.stretch.Stretch.{Stretch}
+use Rattle.sap_where.specs.declared.find.Beginning.TheVariants.{Process}
+use Rattle.sap_where.specs.Where.{BeginsAt, HasStretch, HoldsOnce, IsSecond, IsTakenAt, IsWhere, StartsFile, at_byte, at_name, at_process, bytes_have, declarations_have, header_has, item_has, names_have, offset_of, one_byte, parameters_have, processes_have}
+use Rattle.sap_stretches.specs.Stretches.{stretch_at}
 use Rattle.sap_where.specs.FileDeclarations.{declared_before}
-use Rattle.sap_where.specs.Placed.{path_of}
 use Rattle.sap_where.proofs.DeclaredFiles.{file_declares}
+use Rattle.sap_where.proofs.FirstCauses.{because}
+use Rattle.sap_where.proofs.ItemNames.{taken_statement, two_definitions, two_processes}
 use Rattle.sap_where.proofs.ParameterFiles.{HasTwo, file_twice}
+use Rattle.sap_where.proofs.TakenFiles.{second_begins, taken_by_one, taken_by_two}
 
 -- the fault names an offset before this one
 abbrev pub NamesBefore : Lex → ℕ → Type 0
@@ -124,76 +126,7 @@ header_words z (t ∷ u ∷ v ∷ ts) h =
       },
     )
 
--- neither a fault of bytes nor of a header nor of a piece nor of a parameter nor of a declaration
-abbrev is_later : ReadFault → Bool
-is_later Mem = true
-is_later (LexFault f) = false
-is_later Header = false
-is_later (Syntax n) = false
-is_later NoProcess = true
-is_later (TwoProcesses n) = true
-is_later (UnknownProcess x) = true
-is_later (DuplicateName x) = true
-is_later (FunctionClash x) = false
-is_later (Parameters x) = false
-is_later (Arguments x) = true
-is_later TooMany = true
-is_later TooDeep = true
-is_later (Large x) = true
-is_later (Flawed x w p) = true
-is_later (Ill w p) = true
-is_later (Lock f) = true
-is_later (Formula x f) = true
-
--- such a cause, or a clash that is told
-abbrev CanBe : Option (List ℕ) → ReadFault → Type 0
-CanBe o e = (is_later e ≡ true) ⊎ ((x : List ℕ) × (e ≡ FunctionClash x) × (o ≡ Some x))
-
--- so of each that there is
-abbrev IsLater : Option (List ℕ) → Option ReadFault → Type 0
-IsLater o None = ⊤
-IsLater o (Some e) = CanBe o e
-
-abbrev AreLater : Option (List ℕ) → List (Option ReadFault) → Type 0
-AreLater o [] = ⊤
-AreLater o (p ∷ ps) = IsLater o p × AreLater o ps
-
-first_later : (o : Option (List ℕ)) (ps : List (Option ReadFault)) → AreLater o ps → IsLater o (first_of ps)
-first_later o [] h = tt
-first_later o (None ∷ ps) h = first_later o ps h.1
-first_later o (Some e ∷ ps) h = h.0
-
-later_if : (o : Option (List ℕ)) (b : Bool) (e : ReadFault) → is_later e ≡ true → IsLater o (if b then Some e else None)
-later_if o true e h = inl h
-later_if o false e h = tt
-
-later_map : {A : Type 0} (o : Option (List ℕ)) (f : A → ReadFault) (p : Option A) → ((x : A) → is_later (f x) ≡ true) → IsLater o (option_map f p)
-later_map o f None h = tt
-later_map o f (Some x) h = inl (h x)
-
-later_clash : (o : Option (List ℕ)) → IsLater o (option_map FunctionClash o)
-later_clash None = tt
-later_clash (Some x) = inr (x, refl, refl)
-
-causes_later : (bs : List Body) (ss : List Statement) (o : Option (List ℕ)) → AreLater o (causes bs ss o)
-causes_later bs ss o = (
-  later_if o _ NoProcess refl,
-  (
-    later_map o (λ (b : Body). TwoProcesses b.line) _ (λ b. refl),
-    (
-      later_map o UnknownProcess _ (λ x. refl),
-      (
-        later_map o DuplicateName _ (λ x. refl),
-        (
-          later_map o DuplicateName _ (λ x. refl),
-          (later_clash o, tt),
-        ),
-      ),
-    ),
-  ),
-)
-
--- what a refusal for a fault of bytes, for a header, for a piece, for a parameter or for a declaration says of the bytes
+-- what a refusal for a cause that the words place says of the bytes
 abbrev Tells : List ℕ → Result FileContent ReadFault → Type 0
 Tells z (Ok f) = ⊤
 Tells z (Err Mem) = ⊤
@@ -201,9 +134,9 @@ Tells z (Err (LexFault f)) = IsLexed MOST_FILE_NAME_BYTES 0 1 z (Err f)
 Tells z (Err Header) = (ts : List Token) × AreTokens z ts × ((x : List ℕ) (rest : List Placed) → IsHeader x (placed z ts) rest → ⊥)
 Tells z (Err (Syntax n)) = (ts : List Token) × AreTokens z ts
 Tells z (Err NoProcess) = ⊤
-Tells z (Err (TwoProcesses n)) = ⊤
+Tells z (Err (TwoProcesses n)) = (ts : List Token) × AreTokens z ts × (k : ℕ) × IsSecond (BeginsAt z ts Process []) k
 Tells z (Err (UnknownProcess x)) = ⊤
-Tells z (Err (DuplicateName x)) = ⊤
+Tells z (Err (DuplicateName x)) = (ts : List Token) × AreTokens z ts × (k : ℕ) × IsTakenAt z ts x k
 Tells z (Err (FunctionClash x)) = (ts : List Token) × AreTokens z ts × (clash_from pairs_alone (declared_before z ts (length ts)) ≡ Some x)
 Tells z (Err (Parameters x)) = (ts : List Token) × AreTokens z ts × HasTwo z ts x
 Tells z (Err (Arguments x)) = ⊤
@@ -214,26 +147,6 @@ Tells z (Err (Flawed x w p)) = ⊤
 Tells z (Err (Ill w p)) = ⊤
 Tells z (Err (Lock f)) = ⊤
 Tells z (Err (Formula x f)) = ⊤
-
-tells_later : (z : List ℕ) (e : ReadFault) → is_later e ≡ true → Tells z (Err e)
-tells_later z Mem h = tt
-tells_later z (LexFault f) h = absurd (cc)
-tells_later z Header h = absurd (cc)
-tells_later z (Syntax n) h = absurd (cc)
-tells_later z NoProcess h = tt
-tells_later z (TwoProcesses n) h = tt
-tells_later z (UnknownProcess x) h = tt
-tells_later z (DuplicateName x) h = tt
-tells_later z (FunctionClash x) h = absurd (cc)
-tells_later z (Parameters x) h = absurd (cc)
-tells_later z (Arguments x) h = tt
-tells_later z TooMany h = tt
-tells_later z TooDeep h = tt
-tells_later z (Large x) h = tt
-tells_later z (Flawed x w p) h = tt
-tells_later z (Ill w p) h = tt
-tells_later z (Lock f) h = tt
-tells_later z (Formula x f) h = tt
 
 tells_uses : {z : List ℕ} {ts : List Token} {x : List ℕ} {cut : List (List Placed)} {is : List Standing} (f : MacroFault) → IsParted z ts x cut
     → AreItems (signature_of is) cut is → IsUnexpanded (signature_of is) (bodies is) f → Tells z (Err (fault_of_uses f))
@@ -250,11 +163,9 @@ tells (no_tokens l) = l
 tells (no_header {ts = ts} a n) = (ts, a, n)
 tells (no_item {ts = ts} p f) = (ts, p.tokens)
 tells {z = z} (refused {ts = ts} {is = is} {e = e} p a c) =
-    let o = clash_from pairs_alone (declarations is) in
-    let h : IsLater o (Some e) = subst (λ (q : Option ReadFault). IsLater o q) c (first_later o (causes (bodies is) (statements is) o) (causes_later (bodies is) (statements is) o)) in
-    ⊎_elim (λ (later : is_later e ≡ true). tells_later z e later)
-    (λ (clash : (x : List ℕ) × (e ≡ FunctionClash x) × (o ≡ Some x)). subst (λ (f : ReadFault). Tells z (Err f)) (sym clash.1)
-    (ts, p.tokens, ap (λ (ds : List Declaration). clash_from pairs_alone ds) (file_declares z ts p a) ∙ clash.2)) h
+    because (λ f. Tells z (Err f)) is e tt (λ b f. let s = second_begins z ts Process [] (two_processes z ts p a b f) in (ts, p.tokens, s.0, s.1)) (λ x f. tt)
+    (λ x f. let s = taken_by_two z ts x (two_definitions z ts p a x f) in (ts, p.tokens, s.0, s.1)) (λ x f. let s = taken_by_one z ts x 3 (taken_statement z ts is_generated p a x f) in (ts, p.tokens, s.0, s.1))
+    (λ x f. (ts, p.tokens, ap (λ (ds : List Declaration). clash_from pairs_alone ds) (file_declares z ts p a) ∙ f)) c
 tells (unexpanded {f = f} p a c u) = tells_uses f p a u
 tells (ill p a c q f) = tt
 tells (locked {w = without} p a c q w f) = tt
@@ -262,57 +173,55 @@ tells (locked {w = over} p a c q w f) = tt
 tells (unchecked p a c q w n f) = tt
 tells (accepted p a c q w n f) = tt
 
--- what is told of a fault of bytes
-abbrev ByteTold : List ℕ → Lex → Option Told → Type 0
-ByteTold z f o = MatchOption o ((at : ℕ) → offset_of f ≡ Some at → length z ≤ at)
-    (λ t. ((at : ℕ) × (offset_of f ≡ Some at) × (at < length z) × (t.word ≡ one_byte at)) × (t.uses ≡ []))
+-- where a fault of bytes stands
+abbrev pub BytePlace : List ℕ → Lex → Option Stretch → Type 0
+BytePlace z f o = MatchOption o ((at : ℕ) → offset_of f ≡ Some at → length z ≤ at)
+    (λ s. (at : ℕ) × (offset_of f ≡ Some at) × (at < length z) × (s ≡ one_byte at))
 
 -- the byte of a fault is where the fault stands
-pub byte_place : (z : List ℕ) (f : Lex) (o : Option Told) → ByteTold z f o → IfSome o (λ t. IsPlaceOf z (LexFault f) t)
+pub byte_place : (z : List ℕ) (f : Lex) (o : Option Stretch) → BytePlace z f o → IfSome o (λ s. IsWhere z (LexFault f) s)
 byte_place z f None m = tt
-byte_place z f (Some t) m = (by_words (at_byte m.0.1 m.0.2 m.0.3) m.1)
+byte_place z f (Some s) m = at_byte m.1 m.2 m.3
 
 -- and there is one where the bytes are refused for it
-pub byte_told : (z : List ℕ) (f : Lex) (o : Option Told) → ByteTold z f o → IsRead z (Err (LexFault f)) → o ≡ None → ⊥
-byte_told z f None m r e =
+pub byte_stands : (z : List ℕ) (f : Lex) (o : Option Stretch) → BytePlace z f o → IsRead z (Err (LexFault f)) → o ≡ None → ⊥
+byte_stands z f None m r e =
     let n = fault_in_bytes MOST_FILE_NAME_BYTES z f (tells r) in
     let le = m n.0 n.1 in
     absurd (omega (arith, le, n.2))
-byte_told z f (Some t) m r e = cc
+byte_stands z f (Some t) m r e = cc
 
 -- a header that is refused has a word that is wrong, a parameter stands twice, and a declaration clashes
-pub place_told : (z : List ℕ) (ts : List Token) (e : ReadFault) (o : Option Told) → ((f : Lex) → e ≡ LexFault f → ⊥)
+pub place_stands : (z : List ℕ) (ts : List Token) (e : ReadFault) (o : Option Stretch) → ((f : Lex) → e ≡ LexFault f → ⊥)
     → ((us : List Token) → AreTokens z us → us ≡ ts) → (e ≡ Header → o ≡ None → StartsFile (words_of z ts))
     → ((x : List ℕ) → e ≡ Parameters x → o ≡ None → (i : ℕ) → HoldsOnce (IsParameter z ts x i))
     → ((x : List ℕ) → e ≡ FunctionClash x → o ≡ None → clash_from pairs_alone (declared_before z ts (length ts)) ≡ Some x → ⊥)
-    → ((line : ℕ) → e ≡ Syntax line → IsRead z (Err (Syntax line)) → o ≡ None → ⊥) → ((path : List ℕ) → path_of e ≡ Some path → IsRead z (Err e) → o ≡ None → ⊥)
-    → (IsReadCause e → IsRead z (Err e) → o ≡ None → ⊥) → HasPlace e → IsRead z (Err e) → o ≡ None → ⊥
-place_told z ts e o other only starts once clash item lead reads (bytes_have f) r none = other f refl
-place_told z ts e o other only starts once clash item lead reads (parameters_have x) r none =
+    → ((line : ℕ) → e ≡ Syntax line → IsRead z (Err (Syntax line)) → o ≡ None → ⊥) → (o ≡ None → (s : Stretch) → IsWhere z e s → ⊥) → HasStretch e → IsRead z (Err e) → o ≡ None → ⊥
+place_stands z ts e o other only starts once clash item nowhere (bytes_have f) r none = other f refl
+place_stands z ts e o other only starts once clash item nowhere (parameters_have x) r none =
     let t = tells r in
     let two = subst (λ (us : List Token). HasTwo z us x) (only t.0 t.1) t.2 in
     once x refl none two.item two.first two.second two.order two.is_first two.is_second
-place_told z ts e o other only starts once clash item lead reads (item_has line) r none = item line refl r none
-place_told z ts e o other only starts once clash item lead reads (declarations_have x) r none =
+place_stands z ts e o other only starts once clash item nowhere (item_has line) r none = item line refl r none
+place_stands z ts e o other only starts once clash item nowhere (declarations_have x) r none =
     let t = tells r in
     clash x refl none (subst (λ (us : List Token). clash_from pairs_alone (declared_before z us (length us)) ≡ Some x) (only t.0 t.1) t.2)
-place_told z ts e o other only starts once clash item lead reads (unlocks_have path) r none = lead path refl r none
-place_told z ts e o other only starts once clash item lead reads (parallels_have path) r none = lead path refl r none
-place_told z ts e o other only starts once clash item lead reads header_has r none =
+place_stands z ts e o other only starts once clash item nowhere header_has r none =
     let t = tells r in
     let same = only t.0 t.1 in
     let h = header_words z ts (starts refl none) in
     t.2 h.0 h.1 (subst (λ (us : List Token). IsHeader h.0 (placed z us) h.1) (sym same) h.2)
-place_told z ts e o other only starts once clash item lead reads (reading_has is) r none = reads is r none
+place_stands z ts e o other only starts once clash item nowhere (processes_have line) r none =
+    let t = tells r in nowhere none (stretch_at t.0 t.2) (at_process t.1 t.3 refl)
+place_stands z ts e o other only starts once clash item nowhere (names_have x) r none =
+    let t = tells r in nowhere none (stretch_at t.0 (t.2 + 1)) (at_name t.1 t.3 refl)
 
--- without tokens none is told
-pub tokens_told : (z : List ℕ) (e : ReadFault) → ((f : Lex) → e ≡ LexFault f → ⊥) → ((us : List Token) → AreTokens z us → ⊥) → ((path : List ℕ) → path_of e ≡ Some path → IsRead z (Err e) → ⊥)
-    → (IsReadCause e → IsRead z (Err e) → ⊥) → HasPlace e → IsRead z (Err e) → ⊥
-tokens_told z e other none lead reads (bytes_have f) r = other f refl
-tokens_told z e other none lead reads header_has r = let t = tells r in none t.0 t.1
-tokens_told z e other none lead reads (item_has line) r = let t = tells r in none t.0 t.1
-tokens_told z e other none lead reads (parameters_have x) r = let t = tells r in none t.0 t.1
-tokens_told z e other none lead reads (declarations_have x) r = let t = tells r in none t.0 t.1
-tokens_told z e other none lead reads (unlocks_have path) r = lead path refl r
-tokens_told z e other none lead reads (parallels_have path) r = lead path refl r
-tokens_told z e other none lead reads (reading_has is) r = reads is r
+-- without tokens no file is refused for such a cause but for a byte
+pub tokens_stand : (z : List ℕ) (e : ReadFault) → ((f : Lex) → e ≡ LexFault f → ⊥) → ((us : List Token) → AreTokens z us → ⊥) → HasStretch e → IsRead z (Err e) → ⊥
+tokens_stand z e other none (bytes_have f) r = other f refl
+tokens_stand z e other none header_has r = let t = tells r in none t.0 t.1
+tokens_stand z e other none (item_has line) r = let t = tells r in none t.0 t.1
+tokens_stand z e other none (parameters_have x) r = let t = tells r in none t.0 t.1
+tokens_stand z e other none (declarations_have x) r = let t = tells r in none t.0 t.1
+tokens_stand z e other none (processes_have line) r = let t = tells r in none t.0 t.1
+tokens_stand z e other none (names_have x) r = let t = tells r in none t.0 t.1

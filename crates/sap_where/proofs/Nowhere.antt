@@ -1,21 +1,13 @@
 -- Where nothing is told, the cause has no place.
-use Rattle.std.proofs.Common.{◌≡◌, ◌≤◌, ℕ, List, [], length, refl, sym, subst, arith, Option, None, Some, Ok, Err}
-use Rattle.std.specs.Prelude.{IfOk, Result}
-use Rattle.sap_locks.specs.declared.fault.LockFault.{LockFault}
+use Rattle.std.proofs.Common.{◌≡◌, ◌≤◌, ℕ, List, [], length, refl, sym, subst, arith, Some}
 use Rattle.sap_text.specs.declared.fault.Lex.{Lex}
 use Rattle.sap_text.specs.declared.token.Token.{Token}
 use Rattle.sap_grammar.specs.Words.{words_of}
 use Rattle.sap_read.specs.Files.{AreTokens}
 use Rattle.sap_read.specs.declared.fault.ReadFault.{ReadFault}
-use Rattle.sap_read.specs.declared.fault.ReadFault.TheVariants.{Mem, Lex as LexFault, Header, Syntax, NoProcess, TwoProcesses, UnknownProcess, DuplicateName, FunctionClash, Parameters, Arguments, TooMany, TooDeep, Large, Flawed, Ill, Lock, Formula}
+use Rattle.sap_read.specs.declared.fault.ReadFault.TheVariants.{Lex as LexFault, Header, Syntax, TwoProcesses, DuplicateName, FunctionClash, Parameters}
 use Rattle.sap_where.specs.declared.find.Beginning.TheVariants.{Process}
-use Rattle.sap_where.specs.declared.place.Stretch.{Stretch}
-use Rattle.sap_where.specs.declared.told.Told.{Told}
-use Rattle.sap_where.specs.Placed.{path_of}
-use Rattle.sap_where.specs.ReadPlaces.{IsReadPlace}
-use Rattle.sap_where.specs.Told.{IsPlaceOf, by_path, by_reading, by_words}
-use Rattle.sap_where.proofs.PathTold.{without_path}
-use Rattle.sap_where.proofs.ReadPlaces.{read_tokens}
+use Rattle.sap_stretches.specs.declared.stretch.Stretch.{Stretch}
 use Rattle.sap_expect.specs.FileWords.{IsFileWords}
 use Rattle.sap_terms.specs.Signature.{pairs_alone}
 use Rattle.sap_grammar.specs.Signatures.{clash_from}
@@ -79,46 +71,3 @@ tokens_nowhere z e a none s (at_process t w f) = none _ t
 tokens_nowhere z e a none s (at_name t w f) = none _ t
 tokens_nowhere z e a none s (at_parameter t w f) = none _ t
 tokens_nowhere z e a none s (at_declaration t w f) = none _ t
-
--- without tokens nothing has a place, but a byte
-pub no_tokens_nowhere : (z : List ℕ) (e : ReadFault) → ((f : Lex) → e ≡ LexFault f → ⊥) → ((us : List Token) → AreTokens z us → ⊥) → (t : Told) → IsPlaceOf z e t → ⊥
-no_tokens_nowhere z e a none t (by_words w u) = tokens_nowhere z e a none t.word w
-no_tokens_nowhere z e a none t (by_path h at) = none at.tokens at.placed.parted.tokens
-no_tokens_nowhere z e a none t (by_reading r) = let has = read_tokens z e t r in none has.0 has.1
-
--- only a lock has a path
-no_path : (e : ReadFault) → ((f : LockFault) → e ≡ Lock f → ⊥) → path_of e ≡ None
-no_path Mem n = refl
-no_path (LexFault f) n = refl
-no_path Header n = refl
-no_path (Syntax line) n = refl
-no_path NoProcess n = refl
-no_path (TwoProcesses line) n = refl
-no_path (UnknownProcess x) n = refl
-no_path (DuplicateName x) n = refl
-no_path (FunctionClash x) n = refl
-no_path (Parameters x) n = refl
-no_path (Arguments x) n = refl
-no_path TooMany n = refl
-no_path TooDeep n = refl
-no_path (Large x) n = refl
-no_path (Flawed x w path) n = refl
-no_path (Ill w path) n = refl
-no_path (Lock f) n = absurd (n f refl)
-no_path (Formula x f) n = refl
-
--- what the words don't place has no place
-pub words_nowhere : {E : Type 0} (z : List ℕ) (e : ReadFault) (r : Result (Option Told) E) → ((f : LockFault) → e ≡ Lock f → ⊥) → ((t : Told) → IsReadPlace z e t → ⊥) → IfOk r (λ o. o ≡ None → (s : Stretch) → IsWhere z e s → ⊥)
-    → IfOk r (λ o. o ≡ None → (t : Told) → IsPlaceOf z e t → ⊥)
-words_nowhere z e (Ok o) n unread h = λ none. without_path z e (no_path e n) unread (h none)
-words_nowhere z e (Err m) n unread h = tt
-
-pub piece_nowhere : {E : Type 0} (z : List ℕ) (e : ReadFault) (line : ℕ) (r : Result (Option Told) E) → e ≡ Syntax line → IfOk r (λ o. o ≡ None → (line : ℕ) (s : Stretch) → IsWhere z (Syntax line) s → ⊥)
-    → IfOk r (λ o. o ≡ None → (t : Told) → IsPlaceOf z e t → ⊥)
-piece_nowhere z e line (Ok o) is h = λ none. subst (λ (f : ReadFault). (t : Told) → IsPlaceOf z f t → ⊥) (sym is) (without_path z (Syntax line) refl (λ t r. r) (h none line))
-piece_nowhere z e line (Err m) is h = tt
-
-pub declaration_nowhere : {E : Type 0} (z : List ℕ) (e : ReadFault) (x : List ℕ) (r : Result (Option Told) E) → e ≡ FunctionClash x → IfOk r (λ o. o ≡ None → (s : Stretch) → IsWhere z (FunctionClash x) s → ⊥)
-    → IfOk r (λ o. o ≡ None → (t : Told) → IsPlaceOf z e t → ⊥)
-declaration_nowhere z e x (Ok o) is h = λ none. subst (λ (f : ReadFault). (t : Told) → IsPlaceOf z f t → ⊥) (sym is) (without_path z (FunctionClash x) refl (λ t r. r) (h none))
-declaration_nowhere z e x (Err m) is h = tt

@@ -1,22 +1,18 @@
 -- A cause stands at one place.
-use Rattle.std.proofs.Common.{◌≡◌, ◌≤◌, ◌<◌, ◌+◌, ℕ, zero, suc, List, [], ◌∷◌, ◌++◌, append_assoc, take, drop, refl, sym, ap, ◌∙◌, subst, arith, Option, Some}
+use Rattle.std.proofs.Common.{◌≡◌, ◌≤◌, ◌<◌, ◌+◌, ℕ, zero, suc, List, [], ◌∷◌, ◌++◌, append_assoc, take, drop, refl, sym, ap, ◌∙◌, subst, arith, Some}
 use Rattle.sap_terms.proofs.PlainLaws.Numbers.{same_number}
 use Rattle.sap_text.specs.declared.token.Token.{Token}
 use Rattle.sap_grammar.specs.Words.{Word, words_of}
 use Rattle.sap_read.specs.Files.{AreTokens}
 use Rattle.sap_read.specs.declared.fault.ReadFault.{ReadFault}
 use Rattle.sap_where.specs.declared.find.Beginning.TheVariants.{Process}
-use Rattle.sap_where.specs.declared.place.Stretch.{Stretch}
+use Rattle.sap_stretches.specs.declared.stretch.Stretch.{Stretch}
 use Rattle.sap_expect.specs.FileWords.{IsFileWords}
-use Rattle.sap_where.specs.Where.{BeginsAt, HoldsOnce, IsFirst, IsRepeatedAt, IsSecond, IsTakenAt, IsWhere, StartsFile, at_byte, at_declaration, at_header, at_item, at_name, at_parameter, at_process, one_byte, only_statement, second_definition, second_statement, stretch_at}
+use Rattle.sap_where.specs.Where.{BeginsAt, HoldsOnce, IsFirst, IsRepeatedAt, IsSecond, IsTakenAt, IsWhere, StartsFile, at_byte, at_declaration, at_header, at_item, at_name, at_parameter, at_process, one_byte, only_statement, second_definition, second_statement}
+use Rattle.sap_stretches.specs.Stretches.{stretch_at}
 use Rattle.sap_expect.specs.FirstWrong.{GoOn, IsFirstWrong}
 use Rattle.sap_where.specs.FileDeclarations.{IsClashAt}
-use Rattle.sap_where.specs.Placed.{IsAtPath, path_of}
-use Rattle.sap_where.specs.ReadPlaces.{IsReadPlace}
-use Rattle.sap_where.specs.Told.{IsPlaceOf, by_path, by_reading, by_words}
-use Rattle.sap_where.specs.declared.told.Told.{Told}
 use Rattle.sap_where.proofs.Clashes.{one_clash}
-use Rattle.sap_where.proofs.ReadPlaces.{read_without_path, read_without_words}
 use Rattle.sap_where.proofs.Seconds.{one_second}
 use Rattle.sap_where.proofs.SecondParameter.{one_repeated}
 
@@ -93,33 +89,3 @@ one_place_is z e s t only (at_declaration {ts = ts} {x = x} {k = j} a w f) (at_d
     let v' = subst (λ (us : List Token). IsClashAt z us x k) same v in
     let n = one_clash z ts x j k w v' in
     f ∙ (ap (λ (k : ℕ). stretch_at ts k) n ∙ (ap (λ (us : List Token). stretch_at us k) (sym same) ∙ sym g))
-
-some_path : {p q : List ℕ} → ◌≡◌ {A = Option (List ℕ)} (Some p) (Some q) → p ≡ q
-some_path e = cc (e)
-
--- no path leads to what the words of a file place
-pub placed_without_path : {A : Type 0} {z : List ℕ} {e : ReadFault} {s : Stretch} {path : List ℕ} → IsWhere z e s → path_of e ≡ Some path → A
-placed_without_path (at_byte a l f) h = absurd (cc (h))
-placed_without_path (at_header a w f) h = absurd (cc (h))
-placed_without_path (at_item a w f) h = absurd (cc (h))
-placed_without_path (at_process a w f) h = absurd (cc (h))
-placed_without_path (at_name a w f) h = absurd (cc (h))
-placed_without_path (at_parameter a w f) h = absurd (cc (h))
-placed_without_path (at_declaration a w f) h = absurd (cc (h))
-
-pub one_place_of : (z : List ℕ) (e : ReadFault) (s t : Told) → ((ts us : List Token) → AreTokens z ts → AreTokens z us → us ≡ ts)
-    → ((z path : List ℕ) (s t : Told) → IsAtPath z path s → IsAtPath z path t → s ≡ t) → (IsReadPlace z e s → IsReadPlace z e t → s ≡ t) → IsPlaceOf z e s → IsPlaceOf z e t → s ≡ t
-one_place_of z e s t only one read (by_words w n) (by_words v m) =
-    let word : s.word ≡ t.word = one_place_is z e s.word t.word only w v in
-    let uses : s.uses ≡ t.uses = n ∙ sym m in
-    λ i. record { word = word i; uses = uses i }
-one_place_of z e s t only one read (by_words w n) (by_path h a) = placed_without_path w h
-one_place_of z e s t only one read (by_words w n) (by_reading r) = read_without_words t w r
-one_place_of z e s t only one read (by_path h a) (by_words w n) = placed_without_path w h
-one_place_of z e s t only one read (by_path {path = p} h a) (by_path {path = q} g b) =
-    let same : q ≡ p = some_path (sym g ∙ h) in
-    one z p s t a (subst (λ (r : List ℕ). IsAtPath z r t) same b)
-one_place_of z e s t only one read (by_path {path = p} h a) (by_reading r) = read_without_path z e t p h r
-one_place_of z e s t only one read (by_reading r) (by_words w n) = read_without_words s w r
-one_place_of z e s t only one read (by_reading r) (by_path {path = p} h a) = read_without_path z e s p h r
-one_place_of z e s t only one read (by_reading r) (by_reading q) = read r q

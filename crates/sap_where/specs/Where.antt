@@ -1,5 +1,5 @@
 -- Where in a file the cause stands for which it is refused.
-use Rattle.std.specs.Prelude.{◌≡◌, ◌<◌, ◌≤◌, ◌+◌, ℕ, Bool, true, codes, List, [], ◌∷◌, length, drop, slice_get, Option, Some, None}
+use Rattle.std.specs.Prelude.{◌≡◌, ◌<◌, ◌+◌, ℕ, Bool, true, codes, List, [], ◌∷◌, length, drop, Option, Some, None}
 use Rattle.sap_text.specs.declared.fault.Lex.{Lex}
 use Rattle.sap_text.specs.declared.fault.Lex.TheVariants as lex
 use Rattle.sap_text.specs.declared.token.Token.{Token}
@@ -8,7 +8,8 @@ use Rattle.sap_where.specs.Beginnings.{begins_definition, begins_statement}
 use Rattle.sap_read.specs.Files.{AreTokens}
 use Rattle.sap_read.specs.declared.fault.ReadFault.{ReadFault}
 use Rattle.sap_read.specs.declared.fault.ReadFault.TheVariants.{Lex as LexFault, Header, Syntax, TwoProcesses, DuplicateName, FunctionClash, Parameters}
-use Rattle.sap_where.specs.declared.place.Stretch.{Stretch}
+use Rattle.sap_stretches.specs.Stretches.{stretch_at}
+use Rattle.sap_stretches.specs.declared.stretch.Stretch.{Stretch}
 use Rattle.sap_expect.specs.FileWords.{IsFileWords}
 use Rattle.sap_expect.specs.FirstWrong.{IsFirstWrong}
 use Rattle.sap_where.specs.declared.find.Beginning.{Beginning}
@@ -24,29 +25,9 @@ offset_of (lex.OpenComment at) = Some at
 offset_of (lex.OpenQuote at) = Some at
 offset_of (lex.NameLong at) = Some at
 
--- the stretch is one of so many bytes
-abbrev pub IsInBytes : ℕ → Stretch → Type 0
-IsInBytes size s = (s.from ≤ s.to) × (s.to ≤ size)
-
--- one byte; one token's bytes; no byte, behind the last of the tokens
+-- one byte
 abbrev pub one_byte : ℕ → Stretch
 one_byte at = record { from = at; to = at + 1 }
-
-abbrev pub of_token : Token → Stretch
-of_token t = record { from = t.from; to = t.to }
-
-abbrev pub end_of : List Token → ℕ
-end_of [] = 0
-end_of (t ∷ []) = t.to
-end_of (t ∷ u ∷ ts) = end_of (u ∷ ts)
-
--- the token of this number, or what stands behind them all
-abbrev pub stretch_of : List Token → Option Token → Stretch
-stretch_of ts (Some t) = of_token t
-stretch_of ts None = record { from = end_of ts; to = end_of ts }
-
-abbrev pub stretch_at : List Token → ℕ → Stretch
-stretch_at ts k = stretch_of ts (slice_get ts k)
 
 -- the words begin with a header
 pub record StartsFile (ws : List Word) : Type 0 where
@@ -125,3 +106,13 @@ pub data IsWhere (z : List ℕ) : ReadFault → Stretch → Type 0 where
       → IsRepeatedAt z ts x k → s ≡ stretch_at ts k → IsWhere z (Parameters x) s
   at_declaration : {ts : List Token} {x : List ℕ} {k : ℕ} {s : Stretch} → AreTokens z ts
       → IsClashAt z ts x k → s ≡ stretch_at ts k → IsWhere z (FunctionClash x) s
+
+-- these causes have a stretch in each file that is refused for them
+pub data HasStretch : ReadFault → Type 0 where
+  bytes_have : (f : Lex) → HasStretch (LexFault f)
+  header_has : HasStretch Header
+  item_has : (line : ℕ) → HasStretch (Syntax line)
+  processes_have : (line : ℕ) → HasStretch (TwoProcesses line)
+  names_have : (x : List ℕ) → HasStretch (DuplicateName x)
+  parameters_have : (x : List ℕ) → HasStretch (Parameters x)
+  declarations_have : (x : List ℕ) → HasStretch (FunctionClash x)

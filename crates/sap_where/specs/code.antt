@@ -1,9 +1,2 @@
 -- What the code does, step by step: no public contract cites what stands below.
 pub mod Declaring
-pub mod NamedUses
-pub mod Walked
-pub mod Beyond
-pub mod PartWalk
-pub mod BodyNodes
-pub mod BodyFlaws
-pub mod FlawNodes

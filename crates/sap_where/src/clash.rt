@@ -1,25 +1,20 @@
 //! Where a declaration clashes with what is declared before it.
-ghost use Rattle.std.specs.Prelude.{◌≡◌, ◌≤◌, ◌+◌, ℕ, List, [], None, Some, codes, length, IfOk, IfSome, MatchOption, OnOk};
-ghost use Rattle.std.specs.List.{All};
-ghost use Rattle.sap_text.specs.Spans.{IsWithin};
-ghost use Rattle.sap_text.specs.declared.token.Token.{Token};
+ghost use Rattle.std.specs.Prelude.{◌≡◌, ◌≤◌, ◌+◌, None, Some, codes, length, IfOk, IfSome, MatchOption, OnOk};
 ghost use Rattle.sap_terms.specs.Signature.{pairs_alone};
 ghost use Rattle.sap_grammar.specs.Signatures.{clash_from};
-ghost use Rattle.sap_read.specs.Files.{AreTokens};
+ghost use Rattle.sap_read.specs.FileTokens.{HasTokens};
 ghost use Rattle.sap_read.specs.declared.fault.ReadFault.TheVariants.{FunctionClash};
 ghost use Rattle.sap_where.specs.FileDeclarations.{IsClashAt, declared_at, declared_before, in_item, is_next};
-ghost use Rattle.sap_where.specs.Told.{IsPlaceOf};
 ghost use Rattle.sap_where.specs.Where.{IsWhere};
 ghost use Rattle.sap_where.specs.code.Declaring.{clash_of, with_given};
-ghost use Rattle.sap_where.specs.declared.place.Stretch.{Stretch};
+ghost use Rattle.sap_stretches.specs.declared.stretch.Stretch.{Stretch as StretchOf};
 
 use crate::declarations::{add_builtin_at, add_symbol_at};
 use crate::items::begins_item;
 use crate::token_words::stands;
-use crate::told::Told;
-use crate::walk::stretch_at;
 use sap_grammar::beyond;
-use sap_terms::{Items, Mem, Name, Signature};
+use sap_stretches::{Stretch, stretch_at};
+use sap_terms::{Mem, Name, Signature};
 use sap_text::Token;
 use std::alloc::Global;
 
@@ -147,31 +142,25 @@ fn clash_at(
     }
 }
 
-/// What is told of a declaration that clashes at this name: its first word, where it is the first that clashes. The time is linear in the
+/// Where the declaration stands that clashes at this name: its first word, where it is the first that clashes. The time is linear in the
 /// tokens, but for names, which are looked up. Want of memory is the only error.
-pub(crate) fn clash_told(
+pub(crate) fn clash_place(
     alloc: Global,
     bytes: &[u8],
     tokens: &[Token],
     name: &Name,
-) -> Result<Option<Told>, Mem>
-    requires are { AreTokens bytes.now tokens.now }
-    requires within { All (IsWithin (length bytes.now)) tokens.now }
-    requires only { (ts : List Token) → AreTokens bytes.now ts → ts ≡ tokens.now }
-    ensures place { IfOk result (λ o. IfSome o (λ t. IsPlaceOf bytes.now (FunctionClash name.now) t)) }
-    ensures inside { IfOk result (λ o. IfSome o (λ t. t.word.from ≤ length bytes.now)) }
-    ensures unused { IfOk result (λ o. IfSome o (λ t. t.uses ≡ [])) }
+) -> Result<Option<Stretch>, Mem>
+    requires { HasTokens bytes.now tokens.now }
+    ensures place { IfOk result (λ o. IfSome o (λ s. IsWhere bytes.now (FunctionClash name.now) s)) }
+    ensures inside { IfOk result (λ o. IfSome o (λ s. s.from ≤ length bytes.now)) }
     ensures clash { IfOk result (λ o. o ≡ None
         → clash_from pairs_alone (declared_before bytes.now tokens.now (length tokens.now))
         ≡ Some name.now → ⊥) }
-    ensures none { IfOk result (λ o. o ≡ None → (s : Stretch)
+    ensures none { IfOk result (λ o. o ≡ None → (s : StretchOf)
         → IsWhere bytes.now (FunctionClash name.now) s → ⊥) }
 {
     match clash_at(alloc, bytes, tokens, name.as_bytes())? {
-        Some(k) => Ok(Some(Told {
-            word: stretch_at(tokens, k),
-            uses: Items::new(alloc),
-        })),
+        Some(k) => Ok(Some(stretch_at(tokens, k))),
         None => Ok(None),
     }
 }

@@ -1,19 +1,15 @@
 //! Where a parameter stands a second time in a definition.
-ghost use Rattle.std.specs.Prelude.{◌≡◌, ◌≤◌, ◌<◌, ◌+◌, ℕ, List, None, length, true, IfSome, MatchOption};
-ghost use Rattle.std.specs.List.{All};
-ghost use Rattle.sap_text.specs.Spans.{IsWithin};
-ghost use Rattle.sap_text.specs.declared.token.Token.{Token};
-ghost use Rattle.sap_read.specs.Files.{AreTokens};
+ghost use Rattle.std.specs.Prelude.{◌≡◌, ◌≤◌, ◌<◌, ℕ, None, length, IfSome, MatchOption};
+ghost use Rattle.sap_read.specs.FileTokens.{HasTokens};
 ghost use Rattle.sap_read.specs.declared.fault.ReadFault.TheVariants.{Parameters};
 ghost use Rattle.sap_where.specs.Parameters.{CanBeParameter, IsParameter, goes_on, opens_parameters};
 ghost use Rattle.sap_where.specs.Where.{HoldsOnce, IsRepeatedAt, IsSecond, IsWhere};
-ghost use Rattle.sap_where.specs.declared.place.Stretch.{Stretch};
+ghost use Rattle.sap_stretches.specs.declared.stretch.Stretch.{Stretch};
 
 use crate::items::has_name;
-use crate::place::Stretch;
 use crate::token_words::{is_named, stands};
-use crate::walk::stretch_at;
 use sap_grammar::beyond;
+use sap_stretches::{Stretch, stretch_at};
 use sap_terms::Name;
 use sap_text::Token;
 
@@ -93,9 +89,7 @@ fn repeated(bytes: &[u8], tokens: &[Token], name: &[u8]) -> Option<usize>
 
 /// Where this name stands a second time among the parameters of a definition, the first that has it twice among them.
 pub(crate) fn parameter_place(bytes: &[u8], tokens: &[Token], name: &Name) -> Option<Stretch>
-    requires are { AreTokens bytes.now tokens.now }
-    requires within { All (IsWithin (length bytes.now)) tokens.now }
-    requires only { (ts : List Token) → AreTokens bytes.now ts → ts ≡ tokens.now }
+    requires { HasTokens bytes.now tokens.now }
     ensures place { IfSome result (λ s. IsWhere bytes.now (Parameters name.now) s) }
     ensures inside { IfSome result (λ s. s.from ≤ length bytes.now) }
     ensures none { result ≡ None → (s : Stretch) → IsWhere bytes.now (Parameters name.now) s → ⊥ }

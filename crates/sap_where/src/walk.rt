@@ -1,26 +1,21 @@
 //! Where in a file a cause stands.
-ghost use Rattle.std.specs.Prelude.{◌≡◌, ◌≤◌, ◌<◌, ◌+◌, ℕ, drop, is_some, length, List, Some, None, Err, IfOk, IfSome, MatchOption};
-ghost use Rattle.std.specs.List.{All};
-ghost use Rattle.sap_text.specs.Spans.{IsWithin};
-ghost use Rattle.sap_text.specs.declared.token.Token.{Token};
+ghost use Rattle.std.specs.Prelude.{◌≡◌, ◌≤◌, ◌<◌, ℕ, drop, is_some, length, List, Some, None, IfSome, MatchOption};
 ghost use Rattle.sap_grammar.specs.Words.{starts, words_of};
 ghost use Rattle.sap_grammar.specs.Reading.{name_at};
-ghost use Rattle.sap_read.specs.Files.{AreTokens, IsRead};
+ghost use Rattle.sap_read.specs.FileTokens.{HasTokens};
 ghost use Rattle.sap_read.specs.declared.fault.ReadFault.TheVariants.{FunctionClash, Header, Lex as LexFault, Parameters, Syntax};
 ghost use Rattle.sap_text.specs.declared.fault.Lex.{Lex};
 ghost use Rattle.sap_where.specs.Parameters.{IsParameter};
-ghost use Rattle.sap_where.specs.declared.place.Stretch.{Stretch};
-ghost use Rattle.sap_where.specs.Where.{BeginsAt, HoldsOnce, IsFirst, IsSecond, IsTakenAt, IsTakenNowhere, IsWhere, StartsFile, end_of, offset_of, one_byte, stretch_at};
+ghost use Rattle.sap_stretches.specs.declared.stretch.Stretch.{Stretch};
+ghost use Rattle.sap_where.specs.Where.{HoldsOnce, IsTakenAt, IsTakenNowhere, IsWhere, StartsFile, offset_of, one_byte};
 ghost use Rattle.sap_expect.specs.FirstWrong.{IsFirstWrong};
 
 use crate::find::{Beginning, first, second};
 use crate::parameters::parameter_place;
-use crate::place::Stretch;
 use sap_grammar::{beyond, name_at, starts};
 use sap_read::ReadFault;
-use sap_terms::{MOST_FILE_NAME_BYTES, Mem};
-use sap_text::{Lex, Token, one_answer, tokens};
-use std::alloc::Global;
+use sap_stretches::{Stretch, stretch_at};
+use sap_text::{Lex, Token};
 
 // The offset that a fault of bytes names.
 fn offset_of(fault: Lex) -> Option<u64>
@@ -51,36 +46,6 @@ pub(crate) fn byte_of(fault: Lex, size: u64) -> Option<Stretch>
         },
         None => None,
     }
-}
-
-// Where the last of the tokens ends.
-#[tactic(auto, using(crate::proofs::Words::last_ends))]
-fn end_of(tokens: &[Token]) -> u64
-    ensures { result ≡ end_of tokens.now }
-{
-    match tokens.last() {
-        Some(token) => token.to,
-        None => 0,
-    }
-}
-
-// The stretch of the token of this number, or what stands behind them all.
-#[tactic(auto, using(crate::proofs::Words::end_within))]
-pub(crate) fn stretch_at(tokens: &[Token], k: usize) -> Stretch
-    ensures is { result ≡ stretch_at tokens.now k }
-    ensures within { (size : ℕ) → All (IsWithin size) tokens.now → result.from ≤ size }
-    ensures ends { (size : ℕ) → All (IsWithin size) tokens.now → result.to ≤ size }
-    ensures order { (size : ℕ) → All (IsWithin size) tokens.now → result.from ≤ result.to }
-{
-    if k < tokens.len() {
-        let token = tokens[k];
-        return Stretch {
-            from: token.from,
-            to: token.to,
-        };
-    }
-    let end = end_of(tokens);
-    Stretch { from: end, to: end }
 }
 
 // Whether this symbol or reserved word stands as word number k.
@@ -135,9 +100,7 @@ fn taken(bytes: &[u8], tokens: &[Token], name: &[u8]) -> Option<usize>
 
 // Where the cause stands, if it is told by a token.
 fn place_among(bytes: &[u8], tokens: &[Token], fault: &ReadFault) -> Option<Stretch>
-    requires are { AreTokens bytes.now tokens.now }
-    requires within { All (IsWithin (length bytes.now)) tokens.now }
-    requires only { (ts : List Token) → AreTokens bytes.now ts → ts ≡ tokens.now }
+    requires tokens { HasTokens bytes.now tokens.now }
     requires no_byte { (f : Lex) → fault.now ≡ LexFault f → ⊥ }
     requires no_item { (line : ℕ) → fault.now ≡ Syntax line → ⊥ }
     requires no_clash { (x : List ℕ) → fault.now ≡ FunctionClash x → ⊥ }
@@ -167,9 +130,7 @@ fn place_among(bytes: &[u8], tokens: &[Token], fault: &ReadFault) -> Option<Stre
 
 /// The same, or where a parameter stands a second time.
 pub(crate) fn place_in(bytes: &[u8], tokens: &[Token], fault: &ReadFault) -> Option<Stretch>
-    requires are { AreTokens bytes.now tokens.now }
-    requires within { All (IsWithin (length bytes.now)) tokens.now }
-    requires only { (ts : List Token) → AreTokens bytes.now ts → ts ≡ tokens.now }
+    requires tokens { HasTokens bytes.now tokens.now }
     requires no_byte { (f : Lex) → fault.now ≡ LexFault f → ⊥ }
     requires no_item { (line : ℕ) → fault.now ≡ Syntax line → ⊥ }
     requires no_clash { (x : List ℕ) → fault.now ≡ FunctionClash x → ⊥ }
@@ -184,23 +145,5 @@ pub(crate) fn place_in(bytes: &[u8], tokens: &[Token], fault: &ReadFault) -> Opt
     match fault {
         ReadFault::Parameters { name } => parameter_place(bytes, tokens, name),
         _ => place_among(bytes, tokens, fault),
-    }
-}
-
-/// The tokens of a file, if its bytes are tokens.
-pub(crate) fn file_tokens(alloc: Global, bytes: &[u8]) -> Result<Option<Vec<Token>>, Mem>
-    ensures are { IfOk result (λ o. MatchOption o
-        ((ts : List Token) → AreTokens bytes.now ts → ⊥)
-        (λ v. AreTokens bytes.now v.items)) }
-    ensures within { IfOk result (λ o. IfSome o
-        (λ v. All (IsWithin (length bytes.now)) v.items)) }
-    ensures only { IfOk result (λ o. IfSome o
-        (λ v. (ts : List Token) → AreTokens bytes.now ts → ts ≡ v.items)) }
-{
-    one_answer();
-    match tokens(alloc, bytes, MOST_FILE_NAME_BYTES) {
-        Ok(tokens) => Ok(Some(tokens)),
-        Err(Lex::Mem) => Err(Mem),
-        Err(_) => Ok(None),
     }
 }

@@ -1,12 +1,11 @@
 use Rattle.std.proofs.Common.{refl}
-use Rattle.sap_tool.proofs.WhyMeant.{on_ok, accepted_is, refused_is}
 use Rattle.sap_tool.proofs.why.read.Goals as goal
 
-pub returns-in-Ok : goal.returns-in-Ok
-returns-in-Ok c = on_ok _ _ _ (λ text is. accepted_is c.args.bytes.now text _ c.requires c.in-Ok.ensures.accepted is) c.accepted.ensures
+pub read_items-requires-clause-tokens : goal.read_items-requires-clause-tokens
+read_items-requires-clause-tokens c = rw c.as_slice.ensures.value c.in-Ok.ensures.tokens
 
-pub returns : goal.returns
-returns c =
-    on_ok _ _ _
-    (λ text told. refused_is c.args.bytes.now text told.1.0 c.in-Err.fault c.requires (c.in-Err.ensures.refused c.in-Err.fault refl told.0) told.1.2 told.1.1)
-    c.refused.ensures
+pub refused-requires-clause-refused : goal.refused-requires-clause-refused
+refused-requires-clause-refused c = c.in-Err.ensures.refused c.in-Err.fault refl
+
+pub refused-requires-clause-reached : goal.refused-requires-clause-reached
+refused-requires-clause-reached c = c.in-Err.ensures.bytes c.in-Err.fault refl

@@ -1,0 +1,17 @@
+pub mod Placed
+pub mod PathExamples
+pub mod UndefinedPlaces
+pub mod UsePlaces
+pub mod LimitPlaces
+pub mod LimitExamples
+pub mod FlawPlaces
+pub mod BodyFlawPlaces
+pub mod FlawExamples
+pub mod BodyFlawExamples
+pub mod PartPlaces
+pub mod PartExamples
+pub mod ReadPlaces
+pub mod Reached
+pub mod UseExamples
+pub mod NameExamples
+pub mod code

@@ -1,0 +1,3 @@
+pub mod LastToken
+pub mod Positions
+pub mod PositionsByHand

@@ -1,0 +1,4 @@
+pub mod Stretches
+pub mod StretchExamples
+pub mod Positions
+pub mod PositionExamples

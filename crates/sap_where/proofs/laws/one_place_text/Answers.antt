@@ -1,5 +1,0 @@
-use Rattle.sap_where.proofs.Positions.{one_position, one_place_text_is}
-use Rattle.sap_where.proofs.laws.one_place_text.Goals as goal
-
-pub returns : goal.returns
-returns c = record { positions = one_position; texts = one_place_text_is }

@@ -1,6 +1,0 @@
-use Rattle.std.proofs.Common.{◌≡◌, ◌++◌}
-use Rattle.std.proofs.Math.ListN.{replicate}
-use Rattle.sap_where.proofs.picture.push_repeated.Given as goal
-
-abbrev pub invariant-loop : goal.invariant-loop
-invariant-loop l = l.text ≡ l.initial.text ++ replicate l.counter l.byte
