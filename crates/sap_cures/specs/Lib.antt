@@ -1,0 +1,13 @@
+pub mod Tests
+pub mod ItemRows
+pub mod FormulaRows
+pub mod ProcessRows
+pub mod ByteRows
+pub mod WordCures
+pub mod ByteCures
+pub mod Examples
+pub mod ItemExamples
+pub mod FormulaExamples
+pub mod ProcessExamples
+pub mod ByteExamples
+pub mod code

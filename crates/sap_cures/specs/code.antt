@@ -1,0 +1,2 @@
+-- Rows as the code has them: no public contract cites what stands below.
+pub mod Views
