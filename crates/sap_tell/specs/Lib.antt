@@ -1,3 +1,4 @@
+pub mod Draws
 pub mod Escaped
 pub mod ThreadPaths
 pub mod ThreadPlaces

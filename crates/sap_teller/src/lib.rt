@@ -10,4 +10,4 @@ mod telling;
 mod told_run;
 
 pub use telling::{Along, tell_line, tell_line_apart};
-pub use told_run::{ToldRun, started, tell_run};
+pub use told_run::{ToldRun, WholeRun, started, tell_run};
