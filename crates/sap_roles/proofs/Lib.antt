@@ -1,0 +1,12 @@
+pub mod Down
+pub mod OneWay
+pub mod Ordered
+pub mod Plain
+pub mod Walked
+pub mod Uses
+pub mod Given
+pub mod Answered
+pub mod Forms
+pub mod Numbered
+pub mod Longer
+pub mod Placed

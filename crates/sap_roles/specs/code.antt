@@ -1,0 +1,3 @@
+-- What the code does, step by step: no public contract cites what stands below.
+pub mod Going
+pub mod Steps
