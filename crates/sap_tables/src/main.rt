@@ -2,34 +2,45 @@
 //! How a row is written stands in docs/TESTS.md.
 #![tactic(auto)]
 
-mod calls;
-mod copies;
-mod derivations;
-mod desk;
-mod files;
-mod formulas;
-mod guards;
-mod json;
-mod notation;
-mod page;
-mod piles;
-mod processes;
-mod refused;
-mod run_texts;
-mod runs;
-mod sharing;
-mod short_runs;
-mod show;
-mod tables;
-mod terms;
-mod theories;
-mod tokens;
-
-use calls::put_file;
-use page::Page;
+use sap_calls::{Program, put_file, shelf_with, show_of_calls};
+use sap_layers::{Desk, empty_desk, show_of_layers};
+use sap_outside::{MemShelf, MemSink};
+use sap_rows::{Page, Tables, report};
+use sap_tool::sapic;
+use std::alloc::Global;
 use std::collections::BTreeMap;
 use std::io::Write;
 use std::{env, fs, io};
+
+// The program.
+struct Sapic;
+
+impl Program for Sapic {
+    fn call(
+        alloc: Global,
+        words: &Vec<String>,
+        shelf: &mut MemShelf,
+        out: &mut MemSink,
+        err: &mut MemSink,
+    ) -> u8 {
+        sapic(alloc, words, shelf, out, err)
+    }
+}
+
+// What the rows of a table have made so far, and files by name.
+#[derive(Drop)]
+struct All {
+    desk: Box<Desk>,
+    shelf: MemShelf,
+}
+
+impl Tables for All {
+    fn show_found(&mut self, page: &mut Page, table: &str, row: &str) {
+        if !show_of_calls::<Sapic>(page, &mut self.shelf, table, row) {
+            show_of_layers(page, &mut self.desk, table, row);
+        }
+    }
+}
 
 // Tells the table of this name, with each file that a line `-- file NAME` names.
 fn tell_table(rt: &HostRuntime, out: &mut Page, table: &str) -> io::Result<()> {
@@ -41,8 +52,24 @@ fn tell_table(rt: &HostRuntime, out: &mut Page, table: &str) -> io::Result<()> {
             put_file(out, &mut files, name, text.as_bytes());
         }
     }
-    tables::report(out, table, rows.as_str(), files);
+    tell_rows(out, table, rows.as_str(), files);
     Ok(())
+}
+
+// Tells each row of the table that differs, and how many do.
+fn tell_rows(out: &mut Page, table: &str, rows: &str, files: BTreeMap<String, Vec<u8>>) {
+    let shelf = shelf_with(out, files, 0, 4096);
+    match empty_desk(out) {
+        Some(desk) => {
+            let mut all = All { desk, shelf };
+            report(out, &mut all, table, rows);
+            drop(all);
+        }
+        None => {
+            out.fail();
+            drop(shelf);
+        }
+    }
 }
 
 fn main(rt: HostRuntime) -> io::Result<()> {
@@ -50,8 +77,9 @@ fn main(rt: HostRuntime) -> io::Result<()> {
     for table in env::args(&rt)?.skip(1) {
         tell_table(&rt, &mut out, table.as_str())?;
     }
-    if !out.is_whole {
-        println!(rt; "want of memory")?;
+    if out.is_whole {
+        rt.stdout().write_all(out.as_bytes())
+    } else {
+        rt.stdout().write_all(b"want of memory\n")
     }
-    rt.stdout().write_all(out.as_bytes())
 }

@@ -1,4 +1,0 @@
-use Rattle.sap_tables.proofs.guards.show_time.Goals as goal
-
-pub admit-requires : goal.admit-requires
-admit-requires c = c.has_one_reserved.ensures.0 c.if-has_one_reserved.true
