@@ -17,10 +17,12 @@
 #   deep      one lemma of so many conjuncts, which are more levels than a formula may have
 #   nested    one lemma of so many facts below twenty quantifiers in one another that bind one name, and behind them one without a guard
 #
-# For each size it tells the instructions of both, by valgrind, their ratio, which is to be at most 2.3, and
-# what `why` takes to the size before, at most 2.2. Where there are more nodes than there may be, `compile` counts and `why` walks to the first place beyond, which takes
-# some 11 million more: this is most of what it takes of `nodes`, and lifts the ratio of the smallest file of `names` to 1.8. And of each
-# file of examples/ it tells the instructions of `compile`, and of `why` on it with a lemma that is in no grammar, which are to be fewer.
+# For each size it tells the instructions of both, by valgrind, their ratio, which is to be at most 1.5, of `names` 1.8, of `item`
+# and `line` 3.2, and what `why` takes to the size before, at most 2.2. Both read the file once; of `names` the walk to the place beyond
+# goes through each name, where `compile` counts alone, and sizes of uses are taken once more. Of a piece in no grammar the words are gone
+# over four times up to the wrong one: for its place, twice for what is expected there, and for what to write instead.
+# And of each file of examples/ it tells the instructions of `compile`, and of `why` on it with a lemma that is in no grammar, which are
+# to be fewer.
 #
 # usage: bench/why.sh [KIND..]     `examples` is a kind too
 set -eu

@@ -6,15 +6,20 @@ usage: bench/why_rows.py
 `bench/why-marks` has a row for each file, written as the rows of the tables are, with what refuses it behind `%`. `bench/why/` has
 whole files, whose first line is `-- ` and what refuses them. In both `@@` stands before the word at which the mistake is, or behind
 the last word; a file without `@@` has no place. Where one comes to that word through uses of a `let`, `&&` stands before the name of
-the one use, or `&1&`, `&2&` and so on before the names of several, the innermost first. What is counted here from the marks is line,
+the one use, or `&1&`, `&2&` and so on before the names of several, the innermost first. What is expected in place of a word that is
+in no grammar is found by the grammar of docs/files.md (why_expected.py); where levels have a say it stands by hand behind ` = `. Where a
+row of `sap_cures` fits at the mistake, its sentence stands by hand behind that and ` => `. What is counted here from the marks is line,
 column, the bytes of the word, and the lines of the uses, and N in a cause is the offset of the mark. Nothing is taken from what the
 program prints.
 """
 import glob
 import os
 import re
+import sys
 
 top = os.path.dirname(os.path.dirname(os.path.abspath(__file__)))
+sys.path.insert(0, os.path.join(top, "bench"))
+from why_expected import expectation
 
 # What to change, by the beginning and the end of what refuses a file.
 ADVICE = [
@@ -23,7 +28,7 @@ ADVICE = [
     (r"quote at byte N is not closed", "Write the ' that closes this name, on the same line."),
     (r"name at byte N is longer than 64 bytes", "Shorten it: an identifier, a number or a name in quotes has 64 bytes at most."),
     (r"no theory header", "Begin the file with theory, a name and begin."),
-    (r"line \d+: not in the grammar", "A word is missing, wrong or too many there or before it, or what stands there is nested too deep."),
+    (r"line \d+: not in the grammar", "A word is missing, wrong or too many here or before it."),
     (r"no process", "Add an item process: and the process."),
     (r"line \d+: second process", "Make one of the two a let, or both one process with | between them."),
     (r"process \w+ is not defined", "Define the name by a let above this item, or write the action that was meant."),
@@ -146,15 +151,22 @@ def expected(marked, cause):
     """The file, and all that is told of it."""
     if cause == "accepted":
         return marked, "accepted\n"
+    cause, _, cure = cause.partition(" => ")
     bare, at, uses = unmarked(marked.decode("latin-1"))
     bare = bare.encode("latin-1")
     text, told = "", cause
+    by_hand = None
+    if " = " in cause:
+        cause, by_hand = cause.split(" = ", 1)
+        told = cause
     if at is not None:
         text = picture(bare, *place(bare, at, cause)) + used(bare, uses)
+        if re.fullmatch(r"no theory header|line \d+: not in the grammar", cause):
+            text += expectation(bare, at, by_hand)
         told = cause.replace("byte N", "byte %d" % at)
     advice = [sentence for form, sentence in ADVICE if re.fullmatch(form, cause)]
     assert len(advice) == 1, cause
-    return bare, "file refused: " + told + "\n" + text + advice[0] + "\n"
+    return bare, "file refused: " + told + "\n" + text + (cure or advice[0]) + "\n"
 
 
 def of_marks(row):
