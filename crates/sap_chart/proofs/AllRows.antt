@@ -3,6 +3,7 @@ use Rattle.std.proofs.Common.{◌≡◌, ◌+◌, ℕ, true, cond, List, [], ◌
 use Rattle.std.proofs.lemmas.List.{length-map}
 use Rattle.std.proofs.lemmas.List.Sums.{sum_by-append}
 use Rattle.std.specs.List.{count_by, list_all}
+use Rattle.sap_called.specs.Names.{Draw}
 use Rattle.sap_process.specs.Configuration.{Config}
 use Rattle.sap_process.specs.Proc.{Proc}
 use Rattle.sap_runs.specs.Marks.{Mark}
@@ -25,8 +26,8 @@ row_or_none : (number : ℕ) (paths : List (List ℕ)) (entry : Option ℕ) (tol
 row_or_none number paths entry told label None = refl
 row_or_none number paths entry told label (Some f) = refl
 
-counted : {g : Sig} {p : Proc} {lines : List PStep} {c : Config} {es : List Tree} {tr : Trace} {marks : List Mark} {rows : List Row}
-    → IsDrawnRun g p lines c es tr marks rows → length rows ≡ count_by has_figure lines
+counted : {g : Sig} {p : Proc} {lines : List PStep} {c : Config} {es : List Tree} {tr : Trace} {marks : List Mark} {ds : List Draw} {rows : List Row}
+    → IsDrawnRun g p lines c es tr marks ds rows → length rows ≡ count_by has_figure lines
 counted drawn.starts = refl
 counted (drawn.further {lines = lines} {es = es} {fs = fs} {rows = rows} step inner label told h l t) =
     let paths = thread_paths lines in

@@ -18,6 +18,7 @@ use Rattle.sap_terms.specs.Tree.{Tree, fresh, public}
 use Rattle.sap_tell.specs.Escaped.{escaped, escaped_byte, is_no_mark}
 use Rattle.sap_tell.specs.Told as told
 use Rattle.sap_tell.specs.ToldExamples.{fresh_n}
+use Rattle.sap_called.specs.Names.{Draw, draw}
 use Rattle.sap_chart.specs.Chart as drawn
 use Rattle.sap_chart.specs.Chart.{IsChart, IsDrawnRun}
 use Rattle.sap_chart.specs.ChartExamples.{empty_chart, in_row, out_row, row_left_out, two_lifelines, two_rows}
@@ -29,8 +30,8 @@ use Rattle.sap_chart.specs.declared.figure.Figure.TheVariants as figure
 use Rattle.sap_chart.proofs.AllRows.{all_rows}
 
 -- the run with no line has no row
-no_rows : {g : Sig} {p : Proc} {lines : List PStep} {c : Config} {es : List Tree} {tr : Trace} {marks : List Mark} {rows : List Row}
-    → IsDrawnRun g p lines c es tr marks rows → lines ≡ [] → rows ≡ []
+no_rows : {g : Sig} {p : Proc} {lines : List PStep} {c : Config} {es : List Tree} {tr : Trace} {marks : List Mark} {ds : List Draw} {rows : List Row}
+    → IsDrawnRun g p lines c es tr marks ds rows → lines ≡ [] → rows ≡ []
 no_rows drawn.starts e = refl
 no_rows (drawn.further {lines = before} step inner label told h l t) e = let n : length (before ++ step ∷ []) ≡ length {A = PStep} [] = ap length e in absurd (omega (arith, length-append before (step ∷ [])))
 
@@ -46,7 +47,7 @@ not_nothing g p tr h =
 
 -- an arrow isn't drawn the wrong way round
 abbrev turned : List ℕ
-turned = codes "<g transform='translate(0,100)'><title>8. thread 2 at 111: out(pk(~1)) -- knows 0: pk(~1)</title><text x='10' y='4'>8. thread 2</text><text x='212' y='4' text-anchor='end'>knows 0</text><line x1='220' x2='380' stroke='black' marker-end='url(#arrow)'/><g transform='translate(220,0)'><rect x='8' y='-18' height='13' fill='white' width='85'/><text x='12' y='-7' xml:space='preserve'>out(pk(~1))</text></g></g>\n"
+turned = codes "<g transform='translate(0,100)'><title>8. thread 2 at 111: out(pk(~sk.1)) -- knows 0: pk(~sk.1)</title><text x='10' y='4'>8. thread 2</text><text x='212' y='4' text-anchor='end'>knows 0</text><line x1='220' x2='380' stroke='black' marker-end='url(#arrow)'/><g transform='translate(220,0)'><rect x='8' y='-18' height='13' fill='white' width='106'/><text x='12' y='-7' xml:space='preserve'>out(pk(~sk.1))</text></g></g>\n"
 
 pub not_turned : ¬ (row_text two_lifelines 1 out_row ≡ turned)
 unfolding digits escaped_byte
@@ -75,6 +76,9 @@ one_thread = act (new fresh_n) nil
 abbrev named : Config
 named = makes (becomes (initial one_thread) 0 (Some (with_term fresh_n (fresh 7) nil))) 7
 
+abbrev first_draws : List Draw
+first_draws = draw 7 (codes "n") ∷ []
+
 abbrev ended : Config
 ended = becomes named 0 None
 
@@ -84,8 +88,8 @@ first_row = record {
   paths = [] ∷ [];
   figure = figure.Does 0;
   entry = None;
-  told = codes "1. thread 0 at the root: new ~n -- ~n = ~7";
-  label = codes "new ~n -- ~n = ~7";
+  told = codes "1. thread 0 at the root: new ~n -- ~n = ~n.1";
+  label = codes "new ~n -- ~n = ~n.1";
 }
 
 abbrev last_row : Row
@@ -98,24 +102,24 @@ last_row = record {
   label = codes "'a'";
 }
 
-first_drawn : (g : Sig) → IsDrawnRun g one_thread (line.New 0 7 ∷ []) named [] [] [] (first_row ∷ [])
+first_drawn : (g : Sig) → IsDrawnRun g one_thread (line.New 0 7 ∷ []) named [] [] [] first_draws (first_row ∷ [])
 unfolding digits
 first_drawn g = drawn.further (line.New 0 7) [] [] first_row.told drawn.starts (lines.makes_name 0 7 refl ((λ m. absurd (omega (arith, m.1))), (λ m. absurd (omega (arith, m.1)))))
-    (record { doing = codes "new ~n"; outcomes = codes "~n = ~7" ∷ []; done = told.makes_name 0 7 refl; written = refl })
+    (record { doing = codes "new ~n"; outcomes = codes "~n = ~n.1" ∷ []; done = told.makes_name 0 7 refl; written = refl })
 
-second_drawn : (g : Sig) → IsDrawnRun g one_thread (line.New 0 7 ∷ line.Nil 0 ∷ []) ended [] [] [] (first_row ∷ [])
+second_drawn : (g : Sig) → IsDrawnRun g one_thread (line.New 0 7 ∷ line.Nil 0 ∷ []) ended [] [] [] first_draws (first_row ∷ [])
 unfolding digits
 second_drawn g = drawn.further {lines = line.New 0 7 ∷ []} (line.Nil 0) [] [] (codes "2. thread 0 at 1: 0 -- thread 0 ends") (first_drawn g) (lines.ends 0 refl)
     (record { doing = codes "0"; outcomes = codes "thread 0 ends" ∷ []; done = told.ends 0; written = refl })
 
-third_drawn : (g : Sig) → IsDrawnRun g one_thread (line.New 0 7 ∷ line.Nil 0 ∷ line.Public (codes "a") ∷ []) ended (public (codes "a") ∷ []) [] [] (first_row ∷ last_row ∷ [])
+third_drawn : (g : Sig) → IsDrawnRun g one_thread (line.New 0 7 ∷ line.Nil 0 ∷ line.Public (codes "a") ∷ []) ended (public (codes "a") ∷ []) [] [] first_draws (first_row ∷ last_row ∷ [])
 unfolding digits
 third_drawn g = drawn.further {lines = line.New 0 7 ∷ line.Nil 0 ∷ []} (line.Public (codes "a")) [] [] last_row.told (second_drawn g) (lines.writes (codes "a"))
     (record { doing = codes "'a'"; outcomes = []; done = told.writes (codes "a"); written = refl })
 
 pub three_lines : (g : Sig) → IsChart g one_thread (line.New 0 7 ∷ line.Nil 0 ∷ line.Public (codes "a") ∷ []) [] two_rows
 unfolding digits escaped_byte
-three_lines g = record { config = ended; entries = public (codes "a") ∷ []; marks = []; rows = first_row ∷ last_row ∷ []; drawn = third_drawn g; written = refl }
+three_lines g = record { config = ended; entries = public (codes "a") ∷ []; marks = []; draws = first_draws; rows = first_row ∷ last_row ∷ []; drawn = third_drawn g; written = refl }
 
 -- with a row left out it isn't their chart: two of them are drawn, and there is one title
 pub left_out : ((z : List ℕ) → list_all is_no_mark (escaped z) ≡ true) → (g : Sig) (tr : Trace)

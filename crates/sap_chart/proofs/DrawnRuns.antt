@@ -13,6 +13,7 @@ use Rattle.sap_process.specs.Ready.{IsReady}
 use Rattle.sap_runs.specs.Marks.{Mark, marks_of}
 use Rattle.sap_runs.specs.declared.process_step.PStep.{PStep}
 use Rattle.sap_terms.specs.Signature.{Sig, HoldsBuiltins}
+use Rattle.sap_tell.specs.Draws.{draws_after}
 use Rattle.sap_tell.specs.ThreadPaths.{paths_from, paths_after, thread_paths}
 use Rattle.sap_tell.specs.Told.{IsToldLine}
 use Rattle.sap_tell.specs.ToldLaws.{ToldRunsAreLegal}
@@ -31,7 +32,7 @@ use Rattle.sap_chart.proofs.Columns.{IsDrawing, no_drawing, next_drawing, all_dr
 pub record IsDrawnSoFar (g : Sig) (p : Proc) (lines : List PStep) (z : Running) (a : Along) (d : Drawing) : Type 0 where
   pub marks : List Mark
   pub rows : List Row
-  pub run : IsDrawnRun g p lines (configuration z) (terms_of z.known) d.trace marks rows
+  pub run : IsDrawnRun g p lines (configuration z) (terms_of z.known) d.trace marks a.names rows
   pub sig : z.sig ≡ g
   pub count : a.lines ≡ length lines
   pub paths : a.paths ≡ thread_paths lines
@@ -44,11 +45,11 @@ paths_more paths (s ∷ ss) step = paths_more (paths_after paths s) ss step
 
 module _ (legal : ToldRunsAreLegal) (g : Sig) (p : Proc) where
   -- before the first line
-  pub none_drawn : (z : Running) (a : Along) (d : Drawing) → z.sig ≡ g → z.known ≡ [] → configuration z ≡ initial p → a.paths ≡ [] ∷ [] → a.lines ≡ 0 → a.facts ≡ 0 → d.lifelines.entries ≡ [] → d.body ≡ [] → d.rows ≡ 0 → d.trace ≡ [] → IsDrawnSoFar g p [] z a d
-  none_drawn z a d sig known start paths lines facts lifelines body rows trace = record {
+  pub none_drawn : (z : Running) (a : Along) (d : Drawing) → z.sig ≡ g → z.known ≡ [] → configuration z ≡ initial p → a.paths ≡ [] ∷ [] → a.lines ≡ 0 → a.facts ≡ 0 → a.names ≡ [] → d.lifelines.entries ≡ [] → d.body ≡ [] → d.rows ≡ 0 → d.trace ≡ [] → IsDrawnSoFar g p [] z a d
+  none_drawn z a d sig known start paths lines facts names lifelines body rows trace = record {
     marks = [];
     rows = [];
-    run = rw (start, known, trace) drawn.starts;
+    run = rw (start, known, trace, names) drawn.starts;
     sig = sig;
     count = lines;
     paths = paths;
@@ -64,17 +65,17 @@ module _ (legal : ToldRunsAreLegal) (g : Sig) (p : Proc) where
       let entry = new_entry (terms_of y.known) (terms_of z.known) in
       let here = t.doing ++ outcomes_text t.outcomes in
       let number : a.lines + 1 ≡ length lines + 1 = ap (λ k. k + 1) h.count in
-      let line : IsToldLine g (length lines + 1) (thread_paths lines) (configuration y) (terms_of y.known) step done.inner n.label (terms_of z.known) n.told = record {
+      let line : IsToldLine g (length lines + 1) (thread_paths lines) (draws_after a.names (configuration y) step) (configuration y) (terms_of y.known) step done.inner n.label (terms_of z.known) n.told = record {
         doing = t.doing;
         outcomes = t.outcomes;
-        done = rw (← h.sig) t.done;
-        written = n.done.text ∙ t.written ∙ (λ i. line_text (number i) (actor_text (h.paths i) step) t.doing (seen_texts n.label (terms_of y.known) (terms_of z.known) ++ t.outcomes));
+        done = rw (← h.sig, ← n.done.names) t.done;
+        written = n.done.text ∙ t.written ∙ (λ i. line_text (number i) (actor_text (h.paths i) step) t.doing (seen_texts (n.done.names i) n.label (terms_of y.known) (terms_of z.known) ++ t.outcomes));
       } in
       let row : rows_with (a.lines + 1) [] entry n.told n.apart (figure_of step) ≡ rows_with (length lines + 1) [] entry n.told here (figure_of step) = (λ i. rows_with (number i) [] entry n.told (n.done.apart i) (figure_of step)) in
       record {
         marks = h.marks ++ marks_of done.inner n.label;
         rows = h.rows ++ rows_of (length lines + 1) (thread_paths lines) entry step n.told here;
-        run = rw n.trace (drawn.further {d = configuration z} {fs = terms_of z.known} step done.inner n.label n.told h.run (rw (← h.sig) done.line) line);
+        run = rw (n.trace, n.done.names) (drawn.further {d = configuration z} {fs = terms_of z.known} step done.inner n.label n.told h.run (rw (← h.sig) done.line) line);
         sig = done.sig ∙ h.sig;
         count = n.done.lines ∙ number ∙ sym (length-append lines (step ∷ []));
         paths = n.done.paths ∙ ap (λ ps. paths_after ps step) h.paths ∙ sym (paths_more ([] ∷ []) lines step);
@@ -94,7 +95,7 @@ module _ (legal : ToldRunsAreLegal) (g : Sig) (p : Proc) where
   pub all_charted : (lines : List PStep) (z : Running) (a : Along) (d : Drawing) (before after : List ℕ) → IsDrawnSoFar g p lines z a d → after ≡ before ++ drawn_text d.lifelines.entries d.rows d.body → IsCharted g p lines d.trace before after
   all_charted lines z a d before after h same = record {
     chart = chart_text h.rows;
-    is = record { config = configuration z; entries = terms_of z.known; marks = h.marks; rows = h.rows; drawn = h.run; written = refl };
+    is = record { config = configuration z; entries = terms_of z.known; marks = h.marks; draws = a.names; rows = h.rows; drawn = h.run; written = refl };
     grows = same ∙ ap (λ t. before ++ t) (all_drawing d.lifelines.entries d.body d.rows h.rows h.drawing);
   }
 

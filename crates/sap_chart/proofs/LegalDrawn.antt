@@ -1,5 +1,6 @@
 -- What is drawn is told, and legal; and what is legal is drawn.
 use Rattle.std.proofs.Common.{ℕ, List, [], ◌∷◌, ◌++◌, refl}
+use Rattle.sap_called.specs.Names.{Draw}
 use Rattle.sap_lines.specs.Runs.{IsLegalProcessRun}
 use Rattle.sap_process.specs.Configuration.{Config}
 use Rattle.sap_process.specs.Proc.{Proc}
@@ -18,17 +19,17 @@ use Rattle.sap_chart.specs.ChartLaws.{DrawnRunsAreLegal, LegalRunsAreDrawn}
 use Rattle.sap_chart.specs.ChartText.{chart_text}
 use Rattle.sap_chart.specs.Rows.{Row}
 
-told_too : {g : Sig} {p : Proc} {lines : List PStep} {c : Config} {es : List Tree} {tr : Trace} {marks : List Mark} {rows : List Row}
-    → IsDrawnRun g p lines c es tr marks rows → (text : List ℕ) × IsToldRun g p lines c es tr marks text
+told_too : {g : Sig} {p : Proc} {lines : List PStep} {c : Config} {es : List Tree} {tr : Trace} {marks : List Mark} {ds : List Draw} {rows : List Row}
+    → IsDrawnRun g p lines c es tr marks ds rows → (text : List ℕ) × IsToldRun g p lines c es tr marks ds text
 told_too drawn.starts = ([], told.starts)
 told_too (drawn.further step inner label text h l t) = let r = told_too h in (r.0 ++ (text ++ 10 ∷ []), told.further step inner label text r.1 l t)
 
-pub legal_too : ToldRunsAreLegal → {g : Sig} {p : Proc} {lines : List PStep} {c : Config} {es : List Tree} {tr : Trace} {marks : List Mark} {rows : List Row}
-    → IsDrawnRun g p lines c es tr marks rows → IsLegalProcessRun g HasFewNodes p lines c es tr marks
-legal_too legal {g} {p} {lines} {c} {es} {tr} {marks} h = let r = told_too h in legal g p lines c es tr marks r.0 r.1
+pub legal_too : ToldRunsAreLegal → {g : Sig} {p : Proc} {lines : List PStep} {c : Config} {es : List Tree} {tr : Trace} {marks : List Mark} {ds : List Draw} {rows : List Row}
+    → IsDrawnRun g p lines c es tr marks ds rows → IsLegalProcessRun g HasFewNodes p lines c es tr marks
+legal_too legal {g} {p} {lines} {c} {es} {tr} {marks} {ds} h = let r = told_too h in legal g p lines c es tr marks ds r.0 r.1
 
-drawn_too : {g : Sig} {p : Proc} {lines : List PStep} {c : Config} {es : List Tree} {tr : Trace} {marks : List Mark} {text : List ℕ}
-    → IsToldRun g p lines c es tr marks text → (rows : List Row) × IsDrawnRun g p lines c es tr marks rows
+drawn_too : {g : Sig} {p : Proc} {lines : List PStep} {c : Config} {es : List Tree} {tr : Trace} {marks : List Mark} {ds : List Draw} {text : List ℕ}
+    → IsToldRun g p lines c es tr marks ds text → (rows : List Row) × IsDrawnRun g p lines c es tr marks ds rows
 drawn_too told.starts = ([], drawn.starts)
 drawn_too (told.further step inner label text h l t) = let r = drawn_too h in (_, drawn.further step inner label text r.1 l t)
 
@@ -38,5 +39,5 @@ charts_are_legal legal g p lines tr text h = (h.config, h.entries, h.marks, lega
 pub legal_are_drawn : LegalRunsAreTold → LegalRunsAreDrawn
 legal_are_drawn some g p lines c es tr marks h =
     let t = some g p lines c es tr marks h in
-    let r = drawn_too t.1 in
-    (chart_text r.0, record { config = c; entries = es; marks = marks; rows = r.0; drawn = r.1; written = refl })
+    let r = drawn_too t.2 in
+    (chart_text r.0, record { config = c; entries = es; marks = marks; draws = t.0; rows = r.0; drawn = r.1; written = refl })

@@ -1,6 +1,7 @@
 -- Lines of a ready process have one chart.
 use Rattle.std.proofs.Common.{◌≡◌, ◌+◌, List, [], ◌∷◌, ◌++◌, length, refl, sym, ap, subst, ◌∙◌}
 use Rattle.std.proofs.lemmas.List.{same_from_push}
+use Rattle.sap_called.specs.Names.{Draw}
 use Rattle.sap_lines.specs.Answers.{MatchesExactly, ProcessLinesHaveOneOutcome, RunsMatchExactly}
 use Rattle.sap_lines.specs.Lines as lines
 use Rattle.sap_lines.specs.Lines.{IsProcessLine}
@@ -16,6 +17,7 @@ use Rattle.sap_terms.specs.Signature.{Sig, HoldsBuiltins}
 use Rattle.sap_terms.specs.Trace.{Trace}
 use Rattle.sap_terms.specs.Tree.{Tree}
 use Rattle.sap_terms.specs.declared.fact.Fact.{Fact}
+use Rattle.sap_tell.specs.Draws.{draws_after}
 use Rattle.sap_tell.specs.ThreadPaths.{thread_paths}
 use Rattle.sap_tell.specs.Told.{IsDoing}
 use Rattle.sap_tell.specs.ToldLaws.{LinesDoOneThing, ToldRunsAreLegal}
@@ -41,21 +43,22 @@ never_empty [] y e = cc
 never_empty (x ∷ xs) y e = cc
 
 -- what two drawn runs lead to, and their rows, are the same
-record AreOneDrawing (c d : Config) (es fs : List Tree) (rows others : List Row) : Type 0 where
+record AreOneDrawing (c d : Config) (es fs : List Tree) (ds hs : List Draw) (rows others : List Row) : Type 0 where
   configs : c ≡ d
   entries : es ≡ fs
+  draws : ds ≡ hs
   same_rows : rows ≡ others
 
 module _ (laws : Laws) (g : Sig) (p : Proc) (hold : HoldsBuiltins g) (ready : IsReady g p) where
-  exactly : {ls : List PStep} {c : Config} {es : List Tree} {tr : Trace} {ms : List Mark} {rows : List Row} → IsDrawnRun g p ls c es tr ms rows → MatchesExactly g c es
+  exactly : {ls : List PStep} {c : Config} {es : List Tree} {tr : Trace} {ms : List Mark} {ds : List Draw} {rows : List Row} → IsDrawnRun g p ls c es tr ms ds rows → MatchesExactly g c es
   exactly run = laws.exactly g p _ _ _ _ _ hold ready (laws.small_runs g p _ _ _ _ _ (legal_too laws.legal run))
 
-  one_drawing : {ls ks : List PStep} {c d : Config} {es fs : List Tree} {tr ur : Trace} {ms ns : List Mark} {rows others : List Row} → IsDrawnRun g p ls c es tr ms rows → IsDrawnRun g p ks d fs ur ns others
-      → ls ≡ ks → AreOneDrawing c d es fs rows others
-  one_drawing drawn.starts drawn.starts e = record { configs = refl; entries = refl; same_rows = refl }
+  one_drawing : {ls ks : List PStep} {c d : Config} {es fs : List Tree} {tr ur : Trace} {ms ns : List Mark} {ds hs : List Draw} {rows others : List Row} → IsDrawnRun g p ls c es tr ms ds rows → IsDrawnRun g p ks d fs ur ns hs others
+      → ls ≡ ks → AreOneDrawing c d es fs ds hs rows others
+  one_drawing drawn.starts drawn.starts e = record { configs = refl; entries = refl; draws = refl; same_rows = refl }
   one_drawing drawn.starts (drawn.further {lines = ks} step inner label t h l x) e = absurd (never_empty ks step e)
   one_drawing (drawn.further {lines = ls} step inner label t h l x) drawn.starts e = absurd (never_empty ls step (sym e))
-  one_drawing (drawn.further {lines = ls} {c = c} {d = c_next} {es = es} {fs = fs} step inner label t h l x) (drawn.further {lines = ks} {c = c'} {d = d'} {es = es'} {fs = fs'} step' inner' label' t' h' l' x') e =
+  one_drawing (drawn.further {lines = ls} {c = c} {d = c_next} {es = es} {fs = fs} {ds = ds} step inner label t h l x) (drawn.further {lines = ks} {c = c'} {d = d'} {es = es'} {fs = fs'} {ds = ds'} step' inner' label' t' h' l' x') e =
       let ends = same_from_push ls ks step step' e in
       let before = one_drawing h h' ends.0 in
       let possible : IsProcessLine g HasFewNodes c es step inner' label' d' fs' =
@@ -63,21 +66,25 @@ module _ (laws : Laws) (g : Sig) (p : Proc) (hold : HoldsBuiltins g) (ready : Is
       (subst (λ (y : List Tree). IsProcessLine g HasFewNodes c y step' inner' label' d' fs') (sym before.entries)
       (subst (λ (y : Config). IsProcessLine g HasFewNodes y es' step' inner' label' d' fs') (sym before.configs) l')) in
       let one = laws.outcome g c c_next d' es fs fs' step inner inner' label label' (exactly h) (laws.small_lines g c c_next es fs step inner label l) (laws.small_lines g c d' es fs' step inner' label' possible) in
-      let done : IsDoing g c es step inner label fs x'.doing x'.outcomes =
-      subst (λ (y : List Tree). IsDoing g c es step inner label y x'.doing x'.outcomes) (sym one.entries)
-      (subst (λ (y : List InnerAction). IsDoing g c es step y label fs' x'.doing x'.outcomes) (sym one.inside)
-      (subst (λ (y : List Fact). IsDoing g c es step inner' y fs' x'.doing x'.outcomes) (sym one.labels)
-      (subst (λ (s : PStep). IsDoing g c es s inner' label' fs' x'.doing x'.outcomes) (sym ends.1)
-      (subst (λ (y : List Tree). IsDoing g c y step' inner' label' fs' x'.doing x'.outcomes) (sym before.entries)
-      (subst (λ (y : Config). IsDoing g y es' step' inner' label' fs' x'.doing x'.outcomes) (sym before.configs) x'.done))))) in
-      let doing = laws.one_thing g c c_next es fs step inner label x.doing x'.doing x.outcomes x'.outcomes (exactly h) l x.done done in
+      let names : draws_after ds c step ≡ draws_after ds' c' step' = λ i. draws_after (before.draws i) (before.configs i) (ends.1 i) in
+      let hs = draws_after ds c step in
+      let done : IsDoing g hs c es step inner label fs x'.doing x'.outcomes =
+      subst (λ (y : List Tree). IsDoing g hs c es step inner label y x'.doing x'.outcomes) (sym one.entries)
+      (subst (λ (y : List InnerAction). IsDoing g hs c es step y label fs' x'.doing x'.outcomes) (sym one.inside)
+      (subst (λ (y : List Fact). IsDoing g hs c es step inner' y fs' x'.doing x'.outcomes) (sym one.labels)
+      (subst (λ (s : PStep). IsDoing g hs c es s inner' label' fs' x'.doing x'.outcomes) (sym ends.1)
+      (subst (λ (y : List Tree). IsDoing g hs c y step' inner' label' fs' x'.doing x'.outcomes) (sym before.entries)
+      (subst (λ (y : Config). IsDoing g hs y es' step' inner' label' fs' x'.doing x'.outcomes) (sym before.configs)
+      (subst (λ (y : List Draw). IsDoing g y c' es' step' inner' label' fs' x'.doing x'.outcomes) (sym names) x'.done)))))) in
+      let doing = laws.one_thing g hs c c_next es fs step inner label x.doing x'.doing x.outcomes x'.outcomes (exactly h) l x.done done in
       let told : t ≡ t' =
       x.written
-      ∙ (λ i. line_text (length (ends.0 i) + 1) (actor_text (thread_paths (ends.0 i)) (ends.1 i)) (doing.0 i) (seen_texts (one.labels i) (before.entries i) (one.entries i) ++ doing.1 i))
+      ∙ (λ i. line_text (length (ends.0 i) + 1) (actor_text (thread_paths (ends.0 i)) (ends.1 i)) (doing.0 i) (seen_texts (names i) (one.labels i) (before.entries i) (one.entries i) ++ doing.1 i))
       ∙ sym x'.written in
       record {
         configs = one.configurations;
         entries = one.entries;
+        draws = names;
         same_rows = λ i. before.same_rows i ++ rows_of (length (ends.0 i) + 1) (thread_paths (ends.0 i)) (new_entry (before.entries i) (one.entries i)) (ends.1 i) (told i) (doing.0 i ++ outcomes_text (doing.1 i));
       }
 

@@ -14,8 +14,8 @@ made_row = record {
   paths = first_paths;
   figure = figure.Shows 2;
   entry = None;
-  told = codes "4. thread 2 at 111: event Made(pk(~1)) -- shows Made(pk(~1))";
-  label = codes "event Made(pk(~1))";
+  told = codes "4. thread 2 at 111: event Made(pk(~sk.1)) -- shows Made(pk(~sk.1))";
+  label = codes "event Made(pk(~sk.1))";
 }
 
 abbrev pub out_row : Row
@@ -24,8 +24,8 @@ out_row = record {
   paths = first_paths;
   figure = figure.Puts 2;
   entry = Some 0;
-  told = codes "8. thread 2 at 111: out(pk(~1)) -- knows 0: pk(~1)";
-  label = codes "out(pk(~1))";
+  told = codes "8. thread 2 at 111: out(pk(~sk.1)) -- knows 0: pk(~sk.1)";
+  label = codes "out(pk(~sk.1))";
 }
 
 abbrev pub in_row : Row
@@ -77,10 +77,10 @@ two_lifelines = (2, codes "thread 2 at 111") ∷ (1, codes "thread 1 at 2") ∷ 
 abbrev pub empty_chart : List ℕ
 empty_chart = codes "<svg xmlns='http://www.w3.org/2000/svg' version='1.1' font-family='monospace' font-size='11' width='670' height='70'>\n<title>Chart of a run</title>\n<defs><marker id='arrow' viewBox='0 0 8 8' refX='8' refY='4' markerWidth='8' markerHeight='8' orient='auto'><path d='M0,0 L8,4 L0,8 z'/></marker></defs>\n<rect width='100%' height='100%' fill='white'/>\n<g transform='translate(220,0)'><title>adversary</title><line y1='32' y2='100%' stroke='black' stroke-dasharray='2,4'/><text y='24' text-anchor='middle'>adversary</text></g>\n</svg>\n"
 
--- the chart of a run of `new ~n; 0` whose second line has no row: ~n is ~7, the thread ends, the adversary writes 'a'
+-- the chart of a run of `new ~n; 0` whose second line has no row: ~n is called ~n.1, the thread ends, the adversary writes 'a'
 abbrev pub two_rows : List ℕ
-two_rows = codes "<svg xmlns='http://www.w3.org/2000/svg' version='1.1' font-family='monospace' font-size='11' width='830' height='130'>\n<title>Chart of a run</title>\n<defs><marker id='arrow' viewBox='0 0 8 8' refX='8' refY='4' markerWidth='8' markerHeight='8' orient='auto'><path d='M0,0 L8,4 L0,8 z'/></marker></defs>\n<rect width='100%' height='100%' fill='white'/>\n<g transform='translate(220,0)'><title>adversary</title><line y1='32' y2='100%' stroke='black' stroke-dasharray='2,4'/><text y='24' text-anchor='middle'>adversary</text></g>\n<g transform='translate(380,0)'><title>thread 0 at the root</title><line y1='32' y2='100%' stroke='black' stroke-dasharray='2,4'/><text y='24' text-anchor='middle'>thread 0 at the root</text></g>\n<g transform='translate(0,70)'><title>1. thread 0 at the root: new ~n -- ~n = ~7</title><text x='10' y='4'>1. thread 0</text><g transform='translate(380,0)'><rect x='8' y='-8' height='16' fill='white' width='127'/><circle r='4'/><text x='12' y='4' xml:space='preserve'>new ~n -- ~n = ~7</text></g></g>\n<g transform='translate(0,100)'><title>3. adversary: &apos;a&apos; -- knows 0: &apos;a&apos;</title><text x='10' y='4'>3. adversary</text><text x='212' y='4' text-anchor='end'>knows 0</text><g transform='translate(220,0)'><rect x='8' y='-8' height='16' fill='white' width='29'/><circle r='4' fill='white' stroke='black'/><text x='12' y='4' xml:space='preserve'>&apos;a&apos;</text></g></g>\n</svg>\n"
+two_rows = codes "<svg xmlns='http://www.w3.org/2000/svg' version='1.1' font-family='monospace' font-size='11' width='830' height='130'>\n<title>Chart of a run</title>\n<defs><marker id='arrow' viewBox='0 0 8 8' refX='8' refY='4' markerWidth='8' markerHeight='8' orient='auto'><path d='M0,0 L8,4 L0,8 z'/></marker></defs>\n<rect width='100%' height='100%' fill='white'/>\n<g transform='translate(220,0)'><title>adversary</title><line y1='32' y2='100%' stroke='black' stroke-dasharray='2,4'/><text y='24' text-anchor='middle'>adversary</text></g>\n<g transform='translate(380,0)'><title>thread 0 at the root</title><line y1='32' y2='100%' stroke='black' stroke-dasharray='2,4'/><text y='24' text-anchor='middle'>thread 0 at the root</text></g>\n<g transform='translate(0,70)'><title>1. thread 0 at the root: new ~n -- ~n = ~n.1</title><text x='10' y='4'>1. thread 0</text><g transform='translate(380,0)'><rect x='8' y='-8' height='16' fill='white' width='141'/><circle r='4'/><text x='12' y='4' xml:space='preserve'>new ~n -- ~n = ~n.1</text></g></g>\n<g transform='translate(0,100)'><title>3. adversary: &apos;a&apos; -- knows 0: &apos;a&apos;</title><text x='10' y='4'>3. adversary</text><text x='212' y='4' text-anchor='end'>knows 0</text><g transform='translate(220,0)'><rect x='8' y='-8' height='16' fill='white' width='29'/><circle r='4' fill='white' stroke='black'/><text x='12' y='4' xml:space='preserve'>&apos;a&apos;</text></g></g>\n</svg>\n"
 
 -- the same without its last row
 abbrev pub row_left_out : List ℕ
-row_left_out = codes "<svg xmlns='http://www.w3.org/2000/svg' version='1.1' font-family='monospace' font-size='11' width='830' height='100'>\n<title>Chart of a run</title>\n<defs><marker id='arrow' viewBox='0 0 8 8' refX='8' refY='4' markerWidth='8' markerHeight='8' orient='auto'><path d='M0,0 L8,4 L0,8 z'/></marker></defs>\n<rect width='100%' height='100%' fill='white'/>\n<g transform='translate(220,0)'><title>adversary</title><line y1='32' y2='100%' stroke='black' stroke-dasharray='2,4'/><text y='24' text-anchor='middle'>adversary</text></g>\n<g transform='translate(380,0)'><title>thread 0 at the root</title><line y1='32' y2='100%' stroke='black' stroke-dasharray='2,4'/><text y='24' text-anchor='middle'>thread 0 at the root</text></g>\n<g transform='translate(0,70)'><title>1. thread 0 at the root: new ~n -- ~n = ~7</title><text x='10' y='4'>1. thread 0</text><g transform='translate(380,0)'><rect x='8' y='-8' height='16' fill='white' width='127'/><circle r='4'/><text x='12' y='4' xml:space='preserve'>new ~n -- ~n = ~7</text></g></g>\n</svg>\n"
+row_left_out = codes "<svg xmlns='http://www.w3.org/2000/svg' version='1.1' font-family='monospace' font-size='11' width='830' height='100'>\n<title>Chart of a run</title>\n<defs><marker id='arrow' viewBox='0 0 8 8' refX='8' refY='4' markerWidth='8' markerHeight='8' orient='auto'><path d='M0,0 L8,4 L0,8 z'/></marker></defs>\n<rect width='100%' height='100%' fill='white'/>\n<g transform='translate(220,0)'><title>adversary</title><line y1='32' y2='100%' stroke='black' stroke-dasharray='2,4'/><text y='24' text-anchor='middle'>adversary</text></g>\n<g transform='translate(380,0)'><title>thread 0 at the root</title><line y1='32' y2='100%' stroke='black' stroke-dasharray='2,4'/><text y='24' text-anchor='middle'>thread 0 at the root</text></g>\n<g transform='translate(0,70)'><title>1. thread 0 at the root: new ~n -- ~n = ~n.1</title><text x='10' y='4'>1. thread 0</text><g transform='translate(380,0)'><rect x='8' y='-8' height='16' fill='white' width='141'/><circle r='4'/><text x='12' y='4' xml:space='preserve'>new ~n -- ~n = ~n.1</text></g></g>\n</svg>\n"

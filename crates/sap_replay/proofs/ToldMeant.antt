@@ -31,7 +31,7 @@ pub record Laws : Type 0 where
 told_shown : ToldRunsAreLegal → (f : FileContent) (lines : List PStep) (text : List ℕ) (t : IsToldAndJudged f lines text) → IsShownByLines f.signature f.process lines t.trace
 told_shown law f lines text t =
     let r = t.run in
-    record { config = r.config; entries = r.entries; marks = r.marks; legal = law f.signature f.process lines r.config r.entries t.trace r.marks t.told r.run }
+    record { config = r.config; entries = r.entries; marks = r.marks; legal = law f.signature f.process lines r.config r.entries t.trace r.marks t.draws t.told r.run }
 
 drawn_shown : DrawnRunsAreLegal → (f : FileContent) (lines : List PStep) (text : List ℕ) (t : IsDrawn f lines text) → IsShownByLines f.signature f.process lines t.trace
 drawn_shown law f lines text t =
@@ -79,5 +79,9 @@ drawn_says laws f r text w = record {
 }
 
 -- what stands behind an empty line
-pub behind_empty_line : (told first last verdicts : List ℕ) → first ≡ told ++ 10 ∷ [] → last ≡ first ++ verdicts → last ≡ told ++ 10 ∷ verdicts
+behind_empty_line : (told first last verdicts : List ℕ) → first ≡ told ++ 10 ∷ [] → last ≡ first ++ verdicts → last ≡ told ++ 10 ∷ verdicts
 behind_empty_line told first last verdicts e h = h ∙ ap (λ (y : List ℕ). y ++ verdicts) e ∙ append_assoc told (10 ∷ []) verdicts
+
+-- and then the names
+pub names_behind_line : (told first second last verdicts names : List ℕ) → first ≡ told ++ 10 ∷ [] → second ≡ first ++ verdicts → last ≡ second ++ names → last ≡ told ++ 10 ∷ (verdicts ++ names)
+names_behind_line told first second last verdicts names e h k = k ∙ ap (λ (y : List ℕ). y ++ names) (behind_empty_line told first second verdicts e h) ∙ append_assoc told (10 ∷ verdicts) names

@@ -1,12 +1,14 @@
 -- What is told and drawn of a run, and what that means.
 use Rattle.std.specs.Prelude.{◌≡◌, ℕ, List, ◌∷◌, ◌++◌}
 use Rattle.sap_back.specs.Converted as back
+use Rattle.sap_called.specs.Names.{Draw}
 use Rattle.sap_chart.specs.Chart.{IsChart}
 use Rattle.sap_read.specs.Files.{FileContent}
 use Rattle.sap_run_texts.specs.declared.run.Run.{Run}
 use Rattle.sap_run_texts.specs.declared.run.Run.TheVariants as run
 use Rattle.sap_runs.specs.declared.process_step.PStep.{PStep}
 use Rattle.sap_runs.specs.declared.rule_step.RStep.{RStep}
+use Rattle.sap_tell.specs.ToldText.{names_behind}
 use Rattle.sap_teller.specs.Telling.{IsToldAs}
 use Rattle.sap_terms.specs.Trace.{Trace}
 use Rattle.sap_replay.specs.Replays.{AreOpposite, IsJudgedText, IsSeen}
@@ -20,14 +22,15 @@ pub data AreLinesOf (f : FileContent) : Run → List PStep → Type 0 where
       → AreLinesOf f (run.Rules rule_lines) lines
 
 -- The lines are legal, and the text tells each of them in turn; behind an empty line it says of each restriction and lemma of the file
--- whether it is true on what they show.
+-- whether it is true on what they show, and then, behind another, what each name that they draw is called.
 pub record IsToldAndJudged (f : FileContent) (lines : List PStep) (text : List ℕ) : Type 0 where
   pub trace : Trace
+  pub draws : List Draw
   pub told : List ℕ
-  pub run : IsToldAs f.signature f.process lines trace told
+  pub run : IsToldAs f.signature f.process lines trace draws told
   pub verdicts : List ℕ
   pub judged : AreVerdicts f.signature trace (all_judged f.restrictions f.lemmas) verdicts
-  pub layout : text ≡ told ++ 10 ∷ verdicts
+  pub layout : text ≡ told ++ 10 ∷ (verdicts ++ names_behind draws)
 
 -- the lines are legal, and the text is their chart
 pub record IsDrawn (f : FileContent) (lines : List PStep) (text : List ℕ) : Type 0 where
@@ -50,7 +53,7 @@ pub data AreOwnOrOpposite (f : FileContent) : Run → List PStep → Type 0 wher
       → AreOwnOrOpposite f (run.Rules rule_lines) lines
 
 -- The text tells the run itself, or the one of the process that it is converted to, which is legal within the limit and shows this; and
--- it ends with what is judged of the run that was read.
+-- what is judged of the run that was read stands behind its lines.
 pub record IsToldOf (f : FileContent) (r : Run) (text : List ℕ) : Type 0 where
   pub lines : List PStep
   pub of_run : AreOwnOrOpposite f r lines

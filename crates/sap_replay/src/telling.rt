@@ -18,13 +18,14 @@ use sap_read::File;
 use sap_refusals::{Refusal, told};
 use sap_run_texts::Run;
 use sap_runs::PSteps;
-use sap_tell::legal_runs_are_told;
-use sap_teller::{ToldRun, tell_run};
+use sap_tell::{legal_runs_are_told, push_names_behind};
+use sap_teller::{WholeRun, tell_run};
 use sap_terms::Mem;
 use sap_text::Text;
 use std::alloc::Global;
 
-/// What is told of a run of the process, or of the one that a run of rules is converted to, and the verdicts on what it shows.
+/// What is told of a run of the process, or of the one that a run of rules is converted to, the verdicts on what it shows, and what
+/// its names are called.
 pub fn told_run(alloc: Global, file: &File, run: &Run) -> Result<Text, Refusal>
     requires { IsRunnable (told_by file.now) }
     ensures given { IfOk result (λ text. IsTextOfLines (told_by file.now) (IsToldAndJudged (told_by file.now)) run.now text) }
@@ -39,7 +40,7 @@ pub fn told_run(alloc: Global, file: &File, run: &Run) -> Result<Text, Refusal>
     }
 }
 
-/// What is told of a run of the process, and the verdicts on what it shows.
+/// What is told of a run of the process, the verdicts on what it shows, and what its names are called.
 fn told_lines(alloc: Global, file: &File, lines: &PSteps) -> Result<Text, Refusal>
     requires { IsRunnable (told_by file.now) }
     ensures given { IfOk result (λ text. IsToldAndJudged (told_by file.now) lines.now text) }
@@ -53,19 +54,20 @@ fn told_lines(alloc: Global, file: &File, lines: &PSteps) -> Result<Text, Refusa
     }
 }
 
-/// What is told of a run, and behind an empty line the verdicts on what it shows.
-fn with_verdicts(alloc: Global, file: &File, run: ToldRun) -> Result<Text, Mem>
+/// What is told of a run, behind an empty line the verdicts on what it shows, and then what its names are called.
+fn with_verdicts(alloc: Global, file: &File, run: WholeRun) -> Result<Text, Mem>
     requires { IsRunnable (told_by file.now) }
-    ensures { (lines : List PStep) → IsToldAs (told_by file.now).signature (told_by file.now).process lines run.trace run.text
+    ensures { (lines : List PStep) → IsToldAs (told_by file.now).signature (told_by file.now).process lines run.told.trace run.names run.told.text
         → IfOk result (λ text. IsToldAndJudged (told_by file.now) lines text) }
 {
     legal_runs_are_told();
     seen_traces_are_messages();
     closed_files();
-    let judged = verdicts(alloc, &file.restrictions, &file.lemmas, &run.trace)?;
-    let mut text = run.text;
+    let judged = verdicts(alloc, &file.restrictions, &file.lemmas, &run.told.trace)?;
+    let mut text = run.told.text;
     text.push_bytes(b"\n")?;
     text.push_bytes(judged.as_bytes())?;
+    push_names_behind(&mut text, &run.names)?;
     Ok(text)
 }
 

@@ -1,8 +1,10 @@
 -- Of a run of a ready process one text is told.
 use Rattle.std.proofs.Common.{◌≡◌, ℕ, zero, suc, Bool, true, false, ◌||◌, List, [], ◌∷◌, ◌++◌, length, map, Option, Some, None, if◌then◌else◌, refl, sym, ap, subst, ◌∙◌, inl, inr, slice_get, arith, codes}
 use Rattle.std.specs.Prelude.{All, Contains, ◌+◌, decimal}
+use Rattle.sap_called.specs.NamedTerms.{named, named_facts}
+use Rattle.sap_called.specs.Names.{Draw}
 use Rattle.sap_grammar.specs.FactText.{facts_text, arrow_text}
-use Rattle.sap_grammar.specs.TermText.{term_text, tree_text, variable_text}
+use Rattle.sap_grammar.specs.TermText.{term_text, variable_text}
 use Rattle.std.specs.Option.{option_map_or}
 use Rattle.std.specs.Str.{bytes_eq}
 use Rattle.std.proofs.lemmas.Slice.Eq.{bytes_eq-Decides}
@@ -47,11 +49,12 @@ use Rattle.sap_terms.specs.declared.fact.Fact.{Fact}
 use Rattle.sap_terms.specs.declared.var.Sort.TheVariants.{Msg}
 use Rattle.sap_terms.specs.declared.var.Var.{Var}
 use Rattle.sap_terms.proofs.PlainLaws.Items.{first_item, later_item, cons_cases, contains_got}
+use Rattle.sap_tell.specs.Draws.{draws_after}
 use Rattle.sap_tell.specs.ThreadPaths.{thread_paths}
 use Rattle.sap_tell.specs.Told as told
 use Rattle.sap_tell.specs.Told.{IsDoing, IsToldLine, IsToldRun, bound_texts}
 use Rattle.sap_tell.specs.ToldLaws.{LinesDoOneThing, RunsAreToldByOneText}
-use Rattle.sap_tell.specs.ToldText.{actor_text, bound_text, call_text, seen_texts, line_text}
+use Rattle.sap_tell.specs.ToldText.{actor_text, bound_text, call_text, term_told, seen_texts, line_text}
 use Rattle.sap_tell.proofs.LegalTold.{legal}
 
 -- the names with one more
@@ -100,15 +103,15 @@ abbrev AgreeOnFirst : Choice → Choice → List Var → Type 0
 AgreeOnFirst σ τ vs = (v : Var) → Contains (new_vars [] vs) v → σ v ≡ τ v
 
 -- so what is told of them is the same
-texts_same : (σ τ : Choice) (vs : List Var) → ((v : Var) → Contains vs v → σ v ≡ τ v) → map (λ (v : Var). bound_text (v, σ v)) vs ≡ map (λ (v : Var). bound_text (v, τ v)) vs
-texts_same σ τ [] h = refl
-texts_same σ τ (v ∷ vs) h =
+texts_same : (ds : List Draw) (σ τ : Choice) (vs : List Var) → ((v : Var) → Contains vs v → σ v ≡ τ v) → map (λ (v : Var). bound_text ds (v, σ v)) vs ≡ map (λ (v : Var). bound_text ds (v, τ v)) vs
+texts_same ds σ τ [] h = refl
+texts_same ds σ τ (v ∷ vs) h =
     let first = h v (first_item v vs) in
-    let rest = texts_same σ τ vs (λ u m. h u (later_item v vs u m)) in
-    λ i. bound_text (v, first i) ∷ rest i
+    let rest = texts_same ds σ τ vs (λ u m. h u (later_item v vs u m)) in
+    λ i. bound_text ds (v, first i) ∷ rest i
 
-bound_same : (σ τ : Choice) (vs : List Var) → AgreeOnFirst σ τ vs → bound_texts σ vs ≡ bound_texts τ vs
-bound_same σ τ vs h = texts_same σ τ (new_vars [] vs) h
+bound_same : (ds : List Draw) (σ τ : Choice) (vs : List Var) → AgreeOnFirst σ τ vs → bound_texts ds σ vs ≡ bound_texts ds τ vs
+bound_same ds σ τ vs h = texts_same ds σ τ (new_vars [] vs) h
 
 -- one thread, which puts out what a variable stands for behind an action
 abbrev probe : Action → Var → Proc
@@ -266,7 +269,7 @@ module _ (laws : Laws) (g : Sig) where
   abbrev same : {a b : List ℕ} {o q : List (List ℕ)} → a ≡ b → o ≡ q → AreSame a b o q
   same e h = record { doing = e; outcomes = h }
 
-  module _ (c : Config) (es : List Tree) (exact : MatchesExactly g c es) where
+  module _ (ds : List Draw) (c : Config) (es : List Tree) (exact : MatchesExactly g c es) where
     entry_normal : (k : ℕ) (x : Tree) → slice_get es k ≡ Some x → IsNormalOf x
     entry_normal k x e = All-contains IsNormalOf es x exact.entries (contains_got es x k e)
 
@@ -287,17 +290,17 @@ module _ (laws : Laws) (g : Sig) where
         v ∙ (λ i. left_open (ls i) (mids i) (rs i))
 
     input_texts : (t k : ℕ) (σ τ : Choice) (n m x y : Tree) (p q : Proc) → Runs c t (act (action.input n) p) → Runs c t (act (action.input m) q) → slice_get es k ≡ Some x → slice_get es k ≡ Some y
-        → Fits g σ n x → Fits g τ m y → bound_texts σ (tree_vars n) ≡ bound_texts τ (tree_vars m)
+        → Fits g σ n x → Fits g τ m y → bound_texts ds σ (tree_vars n) ≡ bound_texts ds τ (tree_vars m)
     input_texts t k σ τ n m x y p q r s e f a b =
         let process = same_thread c t (act (action.input n) p) (act (action.input m) q) r s in
         let pattern : m ≡ n = cc in
         let entry = same_entry es k y x f e in
         let fits : Fits g τ n x = subst (λ (z : Tree). Fits g τ n z) entry (subst (λ (z : Tree). Fits g τ z y) pattern b) in
-        bound_same σ τ (tree_vars n) (input_agree σ τ n x (input_pattern t n p r) (entry_normal k x e) a fits) ∙ ap (λ (z : Tree). bound_texts τ (tree_vars z)) (sym pattern)
+        bound_same ds σ τ (tree_vars n) (input_agree σ τ n x (input_pattern t n p r) (entry_normal k x e) a fits) ∙ ap (λ (z : Tree). bound_texts ds τ (tree_vars z)) (sym pattern)
 
     receive_texts : (t k : ℕ) (σ τ : Choice) (l n m u x y : Tree) (p q : Proc) → Runs c t (act (action.receive l n) p) → Runs c t (act (action.receive m u) q) → slice_get es k ≡ Some x → slice_get es k ≡ Some y
         → IsMessageChoice g σ → IsMessageChoice g τ → IsTheoryEqual (equations g) (app2 pair_name l (instance σ n)) x → IsTheoryEqual (equations g) (app2 pair_name m (instance τ u)) y
-        → bound_texts σ (tree_vars n) ≡ bound_texts τ (tree_vars u)
+        → bound_texts ds σ (tree_vars n) ≡ bound_texts ds τ (tree_vars u)
     receive_texts t k σ τ l n m u x y p q r s e f mσ mτ a b =
         let process = same_thread c t (act (action.receive l n) p) (act (action.receive m u) q) r s in
         let channel : m ≡ l = cc in
@@ -306,51 +309,51 @@ module _ (laws : Laws) (g : Sig) where
         let fits : IsTheoryEqual (equations g) (app2 pair_name l (instance τ n)) x =
         subst (λ (z : Tree). IsTheoryEqual (equations g) (app2 pair_name l (instance τ n)) z) entry
         (subst (λ (z : Tree). IsTheoryEqual (equations g) (app2 pair_name l (instance τ z)) y) pattern (subst (λ (z : Tree). IsTheoryEqual (equations g) (app2 pair_name z (instance τ u)) y) channel b)) in
-        bound_same σ τ (tree_vars n) (receive_agree σ τ l n x (receive_pattern t l n p r) (entry_normal k x e) mσ mτ a fits) ∙ ap (λ (z : Tree). bound_texts τ (tree_vars z)) (sym pattern)
+        bound_same ds σ τ (tree_vars n) (receive_agree σ τ l n x (receive_pattern t l n p r) (entry_normal k x e) mσ mτ a fits) ∙ ap (λ (z : Tree). bound_texts ds τ (tree_vars z)) (sym pattern)
 
     -- what is sent has this normal form
     meet_texts : (t : ℕ) (σ τ : Choice) (l n m u x y z : Tree) (p q : Proc) → Runs c t (act (action.receive l n) p) → Runs c t (act (action.receive m u) q) → y ≡ x → IsNormalForm (equations g) x z
-        → Fits g σ n x → Fits g τ u y → bound_texts σ (tree_vars n) ≡ bound_texts τ (tree_vars u)
+        → Fits g σ n x → Fits g τ u y → bound_texts ds σ (tree_vars n) ≡ bound_texts ds τ (tree_vars u)
     meet_texts t σ τ l n m u x y z p q r s sent form a b =
         let process = same_thread c t (act (action.receive l n) p) (act (action.receive m u) q) r s in
         let pattern : u ≡ n = cc in
         let there : Fits g τ n x = subst (λ (w : Tree). Fits g τ n w) sent (subst (λ (w : Tree). Fits g τ w y) pattern b) in
         let first : Fits g σ n z = record { messages = a.messages; equal = laws.kept.onwards (equations g) (instance σ n) x z a.equal form.equal } in
         let second : Fits g τ n z = record { messages = there.messages; equal = laws.kept.onwards (equations g) (instance τ n) x z there.equal form.equal } in
-        bound_same σ τ (tree_vars n) (input_agree σ τ n z (receive_pattern t l n p r) form.normal first second) ∙ ap (λ (w : Tree). bound_texts τ (tree_vars w)) (sym pattern)
+        bound_same ds σ τ (tree_vars n) (input_agree σ τ n z (receive_pattern t l n p r) form.normal first second) ∙ ap (λ (w : Tree). bound_texts ds τ (tree_vars w)) (sym pattern)
 
     one_doing : (step : PStep) (inner : List InnerAction) (label : List Fact) (d : Config) (fs gs : List Tree) (a b : List ℕ) (o q : List (List ℕ)) → IsProcessLine g HasFewNodes c es step inner label d fs
-        → fs ≡ gs → IsDoing g c es step inner label fs a o → IsDoing g c es step inner label gs b q → AreSame a b o q
+        → fs ≡ gs → IsDoing g ds c es step inner label fs a o → IsDoing g ds c es step inner label gs b q → AreSame a b o q
     one_doing _ _ _ d _ _ _ _ _ _ w e (IsDoing.ends t) (IsDoing.ends t') = same refl refl
     one_doing _ _ _ d _ _ _ _ _ _ w e (IsDoing.splits t) (IsDoing.splits t') = same refl refl
     one_doing _ _ _ d _ _ _ _ _ _ w e (IsDoing.copies t) (IsDoing.copies t') = same refl refl
     one_doing _ _ _ d _ _ _ _ _ _ w e (IsDoing.makes_name {x = x} {p = p} t n r) (IsDoing.makes_name {x = x'} {p = p'} t' n' s) =
         let is = same_thread c t (act (action.new x) p) (act (action.new x') p') r s in
         let var : x ≡ x' = cc in
-        same (ap (λ (v : Var). codes "new " ++ variable_text v) var) (ap (λ (v : Var). bound_text (v, fresh n) ∷ []) var)
+        same (ap (λ (v : Var). codes "new " ++ variable_text v) var) (ap (λ (v : Var). bound_text ds (v, fresh n) ∷ []) var)
     one_doing _ _ _ d _ _ _ _ _ _ w e (IsDoing.outputs t n) (IsDoing.outputs t' n') =
-        let term = (same_from_push es es n n' e).1 in same (ap (λ (x : Tree). call_text (codes "out") (tree_text x ∷ [])) term) refl
+        let term = (same_from_push es es n n' e).1 in same (ap (λ (x : Tree). call_text (codes "out") (term_told ds x ∷ [])) term) refl
     one_doing _ _ _ d _ _ _ _ _ _ w e (IsDoing.outputs_on {x = x} t k u h) (IsDoing.outputs_on {x = x'} t' k' u' h') =
         let term = (same_from_push es es u u' e).1 in
         let channel = same_entry es k x x' h h' in
-        same (λ i. call_text (codes "out") (tree_text (channel i) ∷ tree_text (term i) ∷ [])) refl
+        same (λ i. call_text (codes "out") (term_told ds (channel i) ∷ term_told ds (term i) ∷ [])) refl
     one_doing _ _ _ d _ _ _ _ _ _ w e (IsDoing.inputs {n = n} {x = x} {p = p} t k σ r h f) (IsDoing.inputs {n = n'} {x = x'} {p = p'} t' k' σ' r' h' f') =
         let entry = same_entry es k x x' h h' in
-        same (ap (λ (y : Tree). call_text (codes "in") (tree_text y ∷ [])) entry) (input_texts t k σ σ' n n' x x' p p' r r' h h' f f')
+        same (ap (λ (y : Tree). call_text (codes "in") (term_told ds y ∷ [])) entry) (input_texts t k σ σ' n n' x x' p p' r r' h h' f f')
     one_doing _ _ _ d _ _ _ _ _ _ w e (IsDoing.inputs {n = n} {p = p} t k σ r h f) (IsDoing.inputs_on {m = m'} {n = n'} {p = p'} t' k' σ' r' h' m f') =
         let is = same_thread c t (act (action.input n) p) (act (action.receive m' n') p') r r' in absurd (cc)
     one_doing _ _ _ d _ _ _ _ _ _ w e (IsDoing.inputs_on {m = m} {n = n} {p = p} t k σ r h v f) (IsDoing.inputs {n = n'} {p = p'} t' k' σ' r' h' f') =
         let is = same_thread c t (act (action.receive m n) p) (act (action.input n') p') r r' in absurd (cc)
     one_doing _ _ _ d _ _ _ _ _ _ w e (IsDoing.inputs_on {m = m} {n = n} {x = x} {p = p} t k σ r h v f) (IsDoing.inputs_on {m = m'} {n = n'} {x = x'} {p = p'} t' k' σ' r' h' v' f') =
         let entry = same_entry es k x x' h h' in
-        same (ap (λ (y : Tree). call_text (codes "in") (term_text true y ∷ [])) entry) (receive_texts t k σ σ' m n m' n' x x' p p' r r' h h' v v' f f')
+        same (ap (λ (y : Tree). call_text (codes "in") (term_text true (named ds y) ∷ [])) entry) (receive_texts t k σ σ' m n m' n' x x' p p' r r' h h' v v' f f')
     one_doing _ _ _ d _ _ _ _ _ _ w e (IsDoing.meets {m = m} {n = n} {l = l} {r = r} {x = x} {u = u} {p = p} {q = q} s t σ h k x_form u_form f) (IsDoing.meets {m = m'} {n = n'} {l = l'} {r = r'} {x = x'} {u = u'} {p = p'} {q = q'} s' t' σ' h' k' x_form' u_form' f') =
         let sender = same_thread c s (act (action.send m' n') p') (act (action.send m n) p) h' h in
         let on : m' ≡ m = cc in
         let sent : n' ≡ n = cc in
         let channel : x ≡ x' = laws.one_form (equations g) m x x' x_form (subst (λ (y : Tree). IsNormalForm (equations g) y x') on x_form') in
         let term : u ≡ u' = laws.one_form (equations g) n u u' u_form (subst (λ (y : Tree). IsNormalForm (equations g) y u') sent u_form') in
-        same (λ i. call_text (codes "out") (tree_text (channel i) ∷ tree_text (term i) ∷ [])) (meet_texts t σ σ' l r l' r' n n' u q q' k k' sent u_form f f')
+        same (λ i. call_text (codes "out") (term_told ds (channel i) ∷ term_told ds (term i) ∷ [])) (meet_texts t σ σ' l r l' r' n n' u q q' k k' sent u_form f f')
     one_doing _ _ _ d _ _ _ _ _ _ w e (IsDoing.agrees t) (IsDoing.agrees t') = same refl refl
     one_doing _ _ _ d _ _ _ _ _ _ w e (IsDoing.differs t) (IsDoing.differs t') = same refl refl
     one_doing _ _ _ d _ _ _ _ _ _ w e (IsDoing.shows t) (IsDoing.shows t') = same refl refl
@@ -359,11 +362,11 @@ module _ (laws : Laws) (g : Sig) where
     one_doing _ _ _ d _ _ _ _ _ _ w e (IsDoing.finds {m = m} {k = k} {v = v} {x = x} {p = p} {q = q} t r) (IsDoing.finds {m = m'} {x = x'} {p = p'} {q = q'} t' r') =
         let is = same_thread c t (whole.lookup m x p q) (whole.lookup m' x' p' q') r r' in
         let var : x ≡ x' = cc in
-        same (ap (λ (y : Var). codes "lookup " ++ (tree_text k ++ (codes " as " ++ variable_text y))) var) (ap (λ (y : Var). bound_text (y, v) ∷ []) var)
+        same (ap (λ (y : Var). codes "lookup " ++ (term_told ds k ++ (codes " as " ++ variable_text y))) var) (ap (λ (y : Var). bound_text ds (y, v) ∷ []) var)
     one_doing _ _ _ d _ _ _ _ _ _ w e (IsDoing.misses {m = m} {k = k} {x = x} {p = p} {q = q} t r) (IsDoing.misses {m = m'} {x = x'} {p = p'} {q = q'} t' r') =
         let is = same_thread c t (whole.lookup m x p q) (whole.lookup m' x' p' q') r r' in
         let var : x ≡ x' = cc in
-        same (ap (λ (y : Var). codes "lookup " ++ (tree_text k ++ (codes " as " ++ variable_text y))) var) refl
+        same (ap (λ (y : Var). codes "lookup " ++ (term_told ds k ++ (codes " as " ++ variable_text y))) var) refl
     one_doing _ _ _ d _ _ _ _ _ _ w e (IsDoing.locks t) (IsDoing.locks t') = same refl refl
     one_doing _ _ _ d _ _ _ _ _ _ w e (IsDoing.unlocks t) (IsDoing.unlocks t') = same refl refl
     one_doing _ _ _ d _ _ _ _ _ _ w z (IsDoing.embeds {l = l} {e = e} {r = r} {rest = rest} {p = p} t ks b σ left acts right runs m a i j k h) (IsDoing.embeds {l = l'} {e = e'} {r = r'} {rest = rest'} {p = p'} t' ks' b' σ' left' acts' right' runs' m' a' i' j' k' h') =
@@ -384,35 +387,36 @@ module _ (laws : Laws) (g : Sig) where
         } in
         let agree = rule_agree c es exact t l e r p runs ks b σ σ' left left' acts acts right right' rest rest' vars first second in
         let right_side = added_same rest right right' ((rule_piles c es exact t l e r p runs ks b σ σ' left left' acts acts right right' rest rest' vars first second) ∙ ap (λ (y : Pile). adds y right') (sym taken.1)) in
-        same (λ n. facts_text (taken.0 n) ++ (arrow_text acts ++ facts_text (right_side n)))
-        (bound_same σ σ' (facts_vars (l ++ (e ++ r))) agree ∙ (λ n. bound_texts σ' (facts_vars (sym ls n ++ (sym mids n ++ sym rs n)))))
+        same (λ n. facts_text (named_facts ds (taken.0 n)) ++ (arrow_text (named_facts ds acts) ++ facts_text (named_facts ds (right_side n))))
+        (bound_same ds σ σ' (facts_vars (l ++ (e ++ r))) agree ∙ (λ n. bound_texts ds σ' (facts_vars (sym ls n ++ (sym mids n ++ sym rs n)))))
     one_doing _ _ _ d _ _ _ _ _ _ w e (IsDoing.names n) (IsDoing.names n') = same refl refl
     one_doing _ _ _ d _ _ _ _ _ _ w e (IsDoing.writes a) (IsDoing.writes a') = same refl refl
     one_doing _ _ _ d _ _ _ _ _ _ w e (IsDoing.applies f ks x) (IsDoing.applies f' ks' x') =
-        let term = (same_from_push es es x x' e).1 in same (ap (λ (y : Tree). call_text f (map decimal ks) ++ (codes " = " ++ tree_text y)) term) refl
+        let term = (same_from_push es es x x' e).1 in same (ap (λ (y : Tree). call_text f (map decimal ks) ++ (codes " = " ++ term_told ds y)) term) refl
     one_doing _ _ _ d _ _ _ _ _ _ w e (IsDoing.knows k x h) (IsDoing.knows k' x' h') =
-        let entry = same_entry es k x x' h h' in same (ap tree_text entry) refl
+        let entry = same_entry es k x x' h h' in same (ap (term_told ds) entry) refl
 
 never_empty : {A : Type 0} (xs : List A) (y : A) → [] ≡ xs ++ y ∷ [] → ⊥
 never_empty [] y e = cc
 never_empty (x ∷ xs) y e = cc
 
 -- what two told runs lead to, and their texts, are the same
-record AreOneRun (c d : Config) (es fs : List Tree) (text other : List ℕ) : Type 0 where
+record AreOneRun (c d : Config) (es fs : List Tree) (ds hs : List Draw) (text other : List ℕ) : Type 0 where
   configs : c ≡ d
   entries : es ≡ fs
+  draws : ds ≡ hs
   texts : text ≡ other
 
 module _ (laws : Laws) (g : Sig) (p : Proc) (hold : HoldsBuiltins g) (ready : IsReady g p) where
-  exactly : {ls : List PStep} {c : Config} {es : List Tree} {tr : Trace} {ms : List Mark} {text : List ℕ} → IsToldRun g p ls c es tr ms text → MatchesExactly g c es
-  exactly run = laws.exactly g p _ _ _ _ _ hold ready (laws.small_runs g p _ _ _ _ _ (legal g p _ _ _ _ _ _ run))
+  exactly : {ls : List PStep} {c : Config} {es : List Tree} {tr : Trace} {ms : List Mark} {ds : List Draw} {text : List ℕ} → IsToldRun g p ls c es tr ms ds text → MatchesExactly g c es
+  exactly run = laws.exactly g p _ _ _ _ _ hold ready (laws.small_runs g p _ _ _ _ _ (legal g p _ _ _ _ _ _ _ run))
 
-  one_run : {ls ks : List PStep} {c d : Config} {es fs : List Tree} {tr ur : Trace} {ms ns : List Mark} {text other : List ℕ} → IsToldRun g p ls c es tr ms text → IsToldRun g p ks d fs ur ns other
-      → ls ≡ ks → AreOneRun c d es fs text other
-  one_run told.starts told.starts e = record { configs = refl; entries = refl; texts = refl }
+  one_run : {ls ks : List PStep} {c d : Config} {es fs : List Tree} {tr ur : Trace} {ms ns : List Mark} {ds hs : List Draw} {text other : List ℕ} → IsToldRun g p ls c es tr ms ds text → IsToldRun g p ks d fs ur ns hs other
+      → ls ≡ ks → AreOneRun c d es fs ds hs text other
+  one_run told.starts told.starts e = record { configs = refl; entries = refl; draws = refl; texts = refl }
   one_run told.starts (told.further {lines = ks} step inner label t h l x) e = absurd (never_empty ks step e)
   one_run (told.further {lines = ls} step inner label t h l x) told.starts e = absurd (never_empty ls step (sym e))
-  one_run (told.further {lines = ls} {c = c} {d = c_next} {es = es} {fs = fs} {text = text} step inner label t h l x) (told.further {lines = ks} {c = c'} {d = d'} {es = es'} {fs = fs'} {text = text'} step' inner' label' t' h' l' x') e =
+  one_run (told.further {lines = ls} {c = c} {d = c_next} {es = es} {fs = fs} {ds = ds} {text = text} step inner label t h l x) (told.further {lines = ks} {c = c'} {d = d'} {es = es'} {fs = fs'} {ds = ds'} {text = text'} step' inner' label' t' h' l' x') e =
       let ends = same_from_push ls ks step step' e in
       let before = one_run h h' ends.0 in
       let possible : IsProcessLine g HasFewNodes c es step inner' label' d' fs' =
@@ -420,22 +424,25 @@ module _ (laws : Laws) (g : Sig) (p : Proc) (hold : HoldsBuiltins g) (ready : Is
       (subst (λ (y : List Tree). IsProcessLine g HasFewNodes c y step' inner' label' d' fs') (sym before.entries)
       (subst (λ (y : Config). IsProcessLine g HasFewNodes y es' step' inner' label' d' fs') (sym before.configs) l')) in
       let one = laws.outcome g c c_next d' es fs fs' step inner inner' label label' (exactly h) (laws.small_lines g c c_next es fs step inner label l) (laws.small_lines g c d' es fs' step inner' label' possible) in
-      let done : IsDoing g c es step inner label fs' x'.doing x'.outcomes =
-      subst (λ (y : List InnerAction). IsDoing g c es step y label fs' x'.doing x'.outcomes) (sym one.inside)
-      (subst (λ (y : List Fact). IsDoing g c es step inner' y fs' x'.doing x'.outcomes) (sym one.labels)
-      (subst (λ (s : PStep). IsDoing g c es s inner' label' fs' x'.doing x'.outcomes) (sym ends.1)
-      (subst (λ (y : List Tree). IsDoing g c y step' inner' label' fs' x'.doing x'.outcomes) (sym before.entries)
-      (subst (λ (y : Config). IsDoing g y es' step' inner' label' fs' x'.doing x'.outcomes) (sym before.configs) x'.done)))) in
-      let doing = one_doing laws g c es (exactly h) step inner label c_next fs fs' x.doing x'.doing x.outcomes x'.outcomes l one.entries x.done done in
+      let names : draws_after ds c step ≡ draws_after ds' c' step' = λ i. draws_after (before.draws i) (before.configs i) (ends.1 i) in
+      let hs = draws_after ds c step in
+      let done : IsDoing g hs c es step inner label fs' x'.doing x'.outcomes =
+      subst (λ (y : List InnerAction). IsDoing g hs c es step y label fs' x'.doing x'.outcomes) (sym one.inside)
+      (subst (λ (y : List Fact). IsDoing g hs c es step inner' y fs' x'.doing x'.outcomes) (sym one.labels)
+      (subst (λ (s : PStep). IsDoing g hs c es s inner' label' fs' x'.doing x'.outcomes) (sym ends.1)
+      (subst (λ (y : List Tree). IsDoing g hs c y step' inner' label' fs' x'.doing x'.outcomes) (sym before.entries)
+      (subst (λ (y : Config). IsDoing g hs y es' step' inner' label' fs' x'.doing x'.outcomes) (sym before.configs)
+      (subst (λ (y : List Draw). IsDoing g y c' es' step' inner' label' fs' x'.doing x'.outcomes) (sym names) x'.done))))) in
+      let doing = one_doing laws g hs c es (exactly h) step inner label c_next fs fs' x.doing x'.doing x.outcomes x'.outcomes l one.entries x.done done in
       let line_one : t ≡ t' =
       x.written
-      ∙ (λ i. line_text (length (ends.0 i) + 1) (actor_text (thread_paths (ends.0 i)) (ends.1 i)) (doing.doing i) (seen_texts (one.labels i) (before.entries i) (one.entries i) ++ doing.outcomes i))
+      ∙ (λ i. line_text (length (ends.0 i) + 1) (actor_text (thread_paths (ends.0 i)) (ends.1 i)) (doing.doing i) (seen_texts (names i) (one.labels i) (before.entries i) (one.entries i) ++ doing.outcomes i))
       ∙ sym x'.written in
-      record { configs = one.configurations; entries = one.entries; texts = λ i. before.texts i ++ (line_one i ++ 10 ∷ []) }
+      record { configs = one.configurations; entries = one.entries; draws = names; texts = λ i. before.texts i ++ (line_one i ++ 10 ∷ []) }
 
 pub one_text : Laws → RunsAreToldByOneText
-one_text laws g p ls c d es fs tr ur ms ns text other hold ready x y = (one_run laws g p hold ready x y refl).texts
+one_text laws g p ls c d es fs tr ur ms ns ds hs text other hold ready x y = let r = one_run laws g p hold ready x y refl in (r.draws, r.texts)
 
 pub one_thing : Laws → LinesDoOneThing
-one_thing laws g c d es fs step inner label doing other outcomes others exact line x y =
-    let r = one_doing laws g c es exact step inner label d fs fs doing other outcomes others line refl x y in (r.doing, r.outcomes)
+one_thing laws g ds c d es fs step inner label doing other outcomes others exact line x y =
+    let r = one_doing laws g ds c es exact step inner label d fs fs doing other outcomes others line refl x y in (r.doing, r.outcomes)

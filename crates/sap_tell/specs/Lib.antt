@@ -1,4 +1,6 @@
+pub mod Draws
 pub mod Escaped
+pub mod Said
 pub mod ThreadPaths
 pub mod ThreadPlaces
 pub mod ToldText

@@ -1,5 +1,6 @@
 -- Lines of a run of the example of the key server, to see by hand what is told of them.
-use Rattle.std.specs.Prelude.{ℕ, codes, List, [], ◌∷◌}
+use Rattle.std.specs.Prelude.{ℕ, zero, suc, codes, List, [], ◌∷◌}
+use Rattle.sap_called.specs.Names.{Draw, draw}
 use Rattle.sap_runs.specs.declared.process_step.PStep.{PStep}
 use Rattle.sap_runs.specs.declared.process_step.PStep.TheVariants as line
 use Rattle.sap_terms.specs.AdversaryFacts.{linear}
@@ -20,6 +21,10 @@ first_lines = line.Par 0 ∷ line.Rep 0 ∷ line.New 2 1 ∷ []
 -- where threads stand then: the first at 1, the second at 2, the third, which began at 11, at 111
 abbrev pub first_paths : List (List ℕ)
 first_paths = (1 ∷ []) ∷ (2 ∷ []) ∷ (1 ∷ 1 ∷ 1 ∷ []) ∷ []
+
+-- the name that is drawn there, by the word of its variable
+abbrev pub first_names : List Draw
+first_names = draw 1 (codes "sk") ∷ []
 
 -- pk(~1), sign('hi',~1), and the pair of 'hi' and this
 abbrev pub key : Tree
@@ -81,3 +86,8 @@ showing t = act (action.event (a_of t)) nil
 -- in(x); ( event A(x) | 0 )
 abbrev pub taking : Proc
 taking = act (action.input (variable x)) (parallel (showing (variable x)) nil)
+
+-- 'hi' under so many symbols: a term of one node more
+abbrev pub large : ℕ → Tree
+large zero = hi
+large (suc n) = app1 (codes "h") (large n)

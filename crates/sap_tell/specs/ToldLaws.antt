@@ -1,5 +1,6 @@
 -- What is so of told runs.
 use Rattle.std.specs.Prelude.{◌≡◌, ℕ, List}
+use Rattle.sap_called.specs.Names.{Draw}
 use Rattle.sap_lines.specs.Answers.{MatchesExactly}
 use Rattle.sap_lines.specs.Lines.{IsProcessLine}
 use Rattle.sap_lines.specs.Runs.{IsLegalProcessRun}
@@ -23,7 +24,7 @@ use Rattle.sap_tell.specs.Told.{IsDoing, IsToldRun}
 abbrev pub ToldRunsAreLegal : Type 0
 ToldRunsAreLegal =
     (g : Sig) (p : Proc) (lines : List PStep) (c : Config) (es : List Tree) (tr : Trace)
-    (marks : List Mark) (text : List ℕ) → IsToldRun g p lines c es tr marks text
+    (marks : List Mark) (ds : List Draw) (text : List ℕ) → IsToldRun g p lines c es tr marks ds text
     → IsLegalProcessRun g HasFewNodes p lines c es tr marks
 
 -- each legal run of a process within the limit is told by some text
@@ -31,29 +32,29 @@ abbrev pub LegalRunsAreTold : Type 0
 LegalRunsAreTold =
     (g : Sig) (p : Proc) (lines : List PStep) (c : Config) (es : List Tree) (tr : Trace)
     (marks : List Mark) → IsLegalProcessRun g HasFewNodes p lines c es tr marks
-    → (text : List ℕ) × IsToldRun g p lines c es tr marks text
+    → (ds : List Draw) × (text : List ℕ) × IsToldRun g p lines c es tr marks ds text
 
--- lines of a ready process are told by one text, wherever they are said to lead and whatever to show
+-- lines of a ready process draw the same names and are told by one text, wherever they are said to lead and whatever to show
 abbrev pub RunsAreToldByOneText : Type 0
 RunsAreToldByOneText =
     (g : Sig) (p : Proc) (lines : List PStep) (c d : Config) (es fs : List Tree) (tr ur : Trace)
-    (marks others : List Mark) (text other : List ℕ) → HoldsBuiltins g → IsReady g p
-    → IsToldRun g p lines c es tr marks text → IsToldRun g p lines d fs ur others other
-    → text ≡ other
+    (marks others : List Mark) (ds hs : List Draw) (text other : List ℕ) → HoldsBuiltins g
+    → IsReady g p → IsToldRun g p lines c es tr marks ds text
+    → IsToldRun g p lines d fs ur others hs other → (ds ≡ hs) × (text ≡ other)
 
 -- what a possible line does, and what comes of it beside what is shown and known, is one, where what lines match is matched exactly
 abbrev pub LinesDoOneThing : Type 0
 LinesDoOneThing =
-    (g : Sig) (c d : Config) (es fs : List Tree) (step : PStep) (inner : List InnerAction)
-    (label : List Fact) (doing other : List ℕ) (outcomes others : List (List ℕ))
+    (g : Sig) (ds : List Draw) (c d : Config) (es fs : List Tree) (step : PStep)
+    (inner : List InnerAction) (label : List Fact) (doing other : List ℕ) (outcomes others : List (List ℕ))
     → MatchesExactly g c es → IsProcessLine g HasFewNodes c es step inner label d fs
-    → IsDoing g c es step inner label fs doing outcomes
-    → IsDoing g c es step inner label fs other others → (doing ≡ other) × (outcomes ≡ others)
+    → IsDoing g ds c es step inner label fs doing outcomes
+    → IsDoing g ds c es step inner label fs other others → (doing ≡ other) × (outcomes ≡ others)
 
 -- behind told lines of a well-formed process each running thread is what stands at its path, with some variables replaced
 abbrev pub ThreadsStandAtTheirPaths : Type 0
 ThreadsStandAtTheirPaths =
     (g : Sig) (p q : Proc) (lines : List PStep) (c : Config) (es : List Tree) (tr : Trace)
-    (marks : List Mark) (text : List ℕ) (t : ℕ) → HoldsBuiltins g → IsWellFormed g p
-    → IsToldRun g p lines c es tr marks text → Runs c t q
+    (marks : List Mark) (ds : List Draw) (text : List ℕ) (t : ℕ) → HoldsBuiltins g → IsWellFormed g p
+    → IsToldRun g p lines c es tr marks ds text → Runs c t q
     → IsInstanceAt p (path_of (thread_paths lines) t) q

@@ -1,5 +1,7 @@
 -- How a told line is written, from what it tells.
 use Rattle.std.specs.Prelude.{ℕ, ◌+◌, codes, decimal, List, [], ◌∷◌, ◌++◌, length, drop, map, flat_map, Option, Some, None}
+use Rattle.sap_called.specs.NamedTerms.{named, named_fact}
+use Rattle.sap_called.specs.Names.{Draw, names_text}
 use Rattle.sap_grammar.specs.FactText.{fact_text}
 use Rattle.sap_grammar.specs.Pieces.{joined}
 use Rattle.sap_grammar.specs.TermText.{variable_text, tree_text}
@@ -33,16 +35,23 @@ actor_text paths step = one_actor_text paths (thread_of step)
 abbrev pub call_text : List ℕ → List (List ℕ) → List ℕ
 call_text word ts = word ++ (codes "(" ++ (joined (codes ",") ts ++ codes ")"))
 
+-- a term, and a fact, with their names as they are called where these were drawn
+abbrev pub term_told : List Draw → Tree → List ℕ
+term_told ds t = tree_text (named ds t)
+
+abbrev pub fact_told : List Draw → Fact → List ℕ
+fact_told ds f = fact_text (named_fact ds f)
+
 -- what comes of a line: a fact that it shows, an entry that is known from then on, what a variable stands for, that a thread begins
 -- or ends, that a term is held or isn't
-abbrev pub shows_text : Fact → List ℕ
-shows_text f = codes "shows " ++ fact_text f
+abbrev pub shows_text : List Draw → Fact → List ℕ
+shows_text ds f = codes "shows " ++ fact_told ds f
 
-abbrev pub knows_text : ℕ → Tree → List ℕ
-knows_text k x = codes "knows " ++ (decimal k ++ (codes ": " ++ tree_text x))
+abbrev pub knows_text : List Draw → ℕ → Tree → List ℕ
+knows_text ds k x = codes "knows " ++ (decimal k ++ (codes ": " ++ term_told ds x))
 
-abbrev pub bound_text : Var × Tree → List ℕ
-bound_text b = variable_text b.0 ++ (codes " = " ++ tree_text b.1)
+abbrev pub bound_text : List Draw → Var × Tree → List ℕ
+bound_text ds b = variable_text b.0 ++ (codes " = " ++ term_told ds b.1)
 
 abbrev pub begins_text : ℕ → List ℕ
 begins_text t = codes "thread " ++ (decimal t ++ codes " begins")
@@ -50,20 +59,20 @@ begins_text t = codes "thread " ++ (decimal t ++ codes " begins")
 abbrev pub ends_text : ℕ → List ℕ
 ends_text t = codes "thread " ++ (decimal t ++ codes " ends")
 
-abbrev pub held_text : Tree → List ℕ
-held_text k = tree_text k ++ codes " is held"
+abbrev pub held_text : List Draw → Tree → List ℕ
+held_text ds k = term_told ds k ++ codes " is held"
 
-abbrev pub free_text : Tree → List ℕ
-free_text k = tree_text k ++ codes " is free"
+abbrev pub free_text : List Draw → Tree → List ℕ
+free_text ds k = term_told ds k ++ codes " is free"
 
 -- these entries, the first with this number
-abbrev pub known_texts : ℕ → List Tree → List (List ℕ)
-known_texts k [] = []
-known_texts k (x ∷ xs) = knows_text k x ∷ known_texts (k + 1) xs
+abbrev pub known_texts : List Draw → ℕ → List Tree → List (List ℕ)
+known_texts ds k [] = []
+known_texts ds k (x ∷ xs) = knows_text ds k x ∷ known_texts ds (k + 1) xs
 
 -- the facts that a line shows, and the entries that there are behind it and weren't before
-abbrev pub seen_texts : List Fact → List Tree → List Tree → List (List ℕ)
-seen_texts label es fs = map shows_text label ++ known_texts (length es) (drop (length es) fs)
+abbrev pub seen_texts : List Draw → List Fact → List Tree → List Tree → List (List ℕ)
+seen_texts ds label es fs = map (shows_text ds) label ++ known_texts ds (length es) (drop (length es) fs)
 
 -- nothing, or what comes of a line behind two hyphens
 abbrev pub outcomes_text : List (List ℕ) → List ℕ
@@ -73,3 +82,8 @@ outcomes_text (o ∷ os) = codes " -- " ++ joined (codes ", ") (o ∷ os)
 -- a told line, without its line feed: its number, who acts, what is done, and what comes of it
 abbrev pub line_text : ℕ → List ℕ → List ℕ → List (List ℕ) → List ℕ
 line_text number actor action outcomes = decimal number ++ (codes ". " ++ (actor ++ (codes ": " ++ (action ++ outcomes_text outcomes))))
+
+-- behind the lines and what is judged: nothing where no name was drawn, or an empty line and what each name is called, with its number
+abbrev pub names_behind : List Draw → List ℕ
+names_behind [] = []
+names_behind (d ∷ ds) = codes "\n" ++ names_text (d ∷ ds)

@@ -4,6 +4,8 @@
 mod actor;
 mod escaped;
 mod laws;
+mod names_behind;
+mod said_by_hand;
 mod thread_paths;
 mod told_by_hand;
 mod told_laws;
@@ -11,8 +13,11 @@ mod told_laws;
 pub use actor::{push_actor, push_thread};
 pub use escaped::push_escaped;
 pub use laws::{escaped_by_hand, escaped_stands_for_one};
+pub use names_behind::push_names_behind;
+pub use said_by_hand::said_by_hand;
 pub use thread_paths::ThreadPaths;
 pub use told_by_hand::{
-    forms_told_by_hand, lines_told_by_hand, paths_by_hand, run_told_by_hand, thread_places_by_hand,
+    draws_by_hand, forms_told_by_hand, lines_told_by_hand, names_behind_by_hand, paths_by_hand,
+    run_told_by_hand, thread_places_by_hand,
 };
 pub use told_laws::{legal_runs_are_told, one_told_text, threads_stand_at_their_paths};

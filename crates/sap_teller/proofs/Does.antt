@@ -7,7 +7,9 @@ use Rattle.sap_terms.proofs.PlainLaws.Items.{contains_got, first_item}
 use Rattle.sap_calc.specs.Running.{Running, configuration, WouldFind, FindsNothing}
 use Rattle.sap_calc.specs.ThreadHeads.{HasHead, taken_patterns}
 use Rattle.sap_deduce.specs.Entries.{terms_of}
-use Rattle.sap_grammar.specs.TermText.{tree_text, term_text, variable_text}
+use Rattle.sap_called.specs.NamedTerms.{named}
+use Rattle.sap_called.specs.Names.{Draw}
+use Rattle.sap_grammar.specs.TermText.{term_text, variable_text}
 use Rattle.sap_lines.specs.Answers.{MatchesExactly}
 use Rattle.sap_lines.specs.Lines as lines
 use Rattle.sap_lines.specs.Lines.{IsProcessLine}
@@ -38,7 +40,7 @@ use Rattle.sap_terms.specs.declared.term.Term.{Term}
 use Rattle.sap_terms.specs.declared.var.Var.{Var}
 use Rattle.sap_tell.specs.Told as told
 use Rattle.sap_tell.specs.Told.{IsDoing, bound_texts}
-use Rattle.sap_tell.specs.ToldText.{bound_text, begins_text, call_text, held_text, free_text}
+use Rattle.sap_tell.specs.ToldText.{bound_text, begins_text, call_text, held_text, free_text, term_told}
 use Rattle.sap_teller.specs.code.Doings.{action_of, outcomes_of, binding_texts}
 use Rattle.sap_teller.specs.code.LawsBelow.{Laws}
 use Rattle.sap_teller.specs.code.Heads.{IsOfOne, IsOfTwo, IsMade, IsCompared, IsInserted, IsDeleted, IsLooked, IsLocked, IsUnlocked, IsFitted, IsMetBy, IsOfEntry, AreOfEntries, IsTakenAt}
@@ -49,13 +51,13 @@ use Rattle.sap_teller.proofs.Inverted.{IsOne, AreTwo, new_form, in_form, recv_fo
 -- a line that is possible here does this
 abbrev pub DoesHere : Sig → Config → List Tree → Config → List Tree → PStep → Doing → Type 0
 DoesHere g c es d fs step x =
-    (inner : List InnerAction) (label : List Fact) → IsProcessLine g HasFewNodes c es step inner label d fs → IsDoing g c es step inner label fs (action_of label x) (outcomes_of x)
+    (ds : List Draw) (inner : List InnerAction) (label : List Fact) → IsProcessLine g HasFewNodes c es step inner label d fs → IsDoing g ds c es step inner label fs (action_of ds label x) (outcomes_of ds x)
 
 -- what is found out is what is done
-by_is : {g : Sig} {c : Config} {es fs : List Tree} {step : PStep} {inner : List InnerAction} {label : List Fact} {x y : Doing} → x ≡ y
-    → IsDoing g c es step inner label fs (action_of label y) (outcomes_of y) → IsDoing g c es step inner label fs (action_of label x) (outcomes_of x)
-by_is {g = g} {c = c} {es = es} {fs = fs} {step = step} {inner = inner} {label = label} e h =
-    subst (λ (z : Doing). IsDoing g c es step inner label fs (action_of label z) (outcomes_of z)) (sym e) h
+by_is : {g : Sig} {ds : List Draw} {c : Config} {es fs : List Tree} {step : PStep} {inner : List InnerAction} {label : List Fact} {x y : Doing} → x ≡ y
+    → IsDoing g ds c es step inner label fs (action_of ds label y) (outcomes_of ds y) → IsDoing g ds c es step inner label fs (action_of ds label x) (outcomes_of ds x)
+by_is {g = g} {ds = ds} {c = c} {es = es} {fs = fs} {step = step} {inner = inner} {label = label} e h =
+    subst (λ (z : Doing). IsDoing g ds c es step inner label fs (action_of ds label z) (outcomes_of ds z)) (sym e) h
 
 one_thread : (c : Config) (t : ℕ) (p q : Proc) → Runs c t p → Runs c t q → p ≡ q
 one_thread c t p q a b = cc
@@ -71,50 +73,50 @@ got_front (e ∷ es) x u (suc k) h = got_front es x u k h
 
 -- lines without a head
 pub does_ends : {g : Sig} {c d : Config} {es fs : List Tree} (t : ℕ) → DoesHere g c es d fs (line.Nil t) (does.Ends t)
-does_ends t inner label (lines.ends _ r) = told.ends t
+does_ends t ds inner label (lines.ends _ r) = told.ends t
 
 pub does_splits : {g : Sig} {c d : Config} {es fs : List Tree} (t n : ℕ) → n ≡ length c.threads → DoesHere g c es d fs (line.Par t) (does.Splits n)
-does_splits {g = g} {c = c} {es = es} t n e inner label (lines.splits _ r) = subst (λ (k : ℕ). IsDoing g c es (line.Par t) [] [] es (codes "|") (begins_text k ∷ [])) (sym e) (told.splits t)
+does_splits {g = g} {c = c} {es = es} t n e ds inner label (lines.splits _ r) = subst (λ (k : ℕ). IsDoing g ds c es (line.Par t) [] [] es (codes "|") (begins_text k ∷ [])) (sym e) (told.splits t)
 
 pub does_copies : {g : Sig} {c d : Config} {es fs : List Tree} (t n : ℕ) → n ≡ length c.threads → DoesHere g c es d fs (line.Rep t) (does.Copies n)
-does_copies {g = g} {c = c} {es = es} t n e inner label (lines.copies _ r) = subst (λ (k : ℕ). IsDoing g c es (line.Rep t) [] [] es (codes "!") (begins_text k ∷ [])) (sym e) (told.copies t)
+does_copies {g = g} {c = c} {es = es} t n e ds inner label (lines.copies _ r) = subst (λ (k : ℕ). IsDoing g ds c es (line.Rep t) [] [] es (codes "!") (begins_text k ∷ [])) (sym e) (told.copies t)
 
 pub does_names : {g : Sig} {c d : Config} {es fs : List Tree} (n : ℕ) → DoesHere g c es d fs (line.Name n) (does.Names n)
-does_names n inner label (lines.names _ u) = told.names n
+does_names n ds inner label (lines.names _ u) = told.names n
 
 pub does_writes : {g : Sig} {c d : Config} {es fs : List Tree} (a : Bor (List ℕ)) → DoesHere g c es d fs (line.Public a.now) (does.Writes a)
-does_writes a inner label (lines.writes _) = told.writes a.now
+does_writes a ds inner label (lines.writes _) = told.writes a.now
 
 pub does_shows : {g : Sig} {c d : Config} {es fs : List Tree} (t : ℕ) → DoesHere g c es d fs (line.Event t) does.Shows
-does_shows t inner label (lines.shows _ r f w) = told.shows t
+does_shows t ds inner label (lines.shows _ r f w) = told.shows t
 
 -- lines that tell entries
 pub does_sends : {g : Sig} {c d : Config} {es fs : List Tree} (t k : ℕ) (x : Doing) → k ≡ length es → IsOfEntry fs k does.Sends x → DoesHere g c es d fs (line.Out t) x
-does_sends {g = g} {c = c} {es = es} t k x at h inner label (lines.outputs {n = n} _ r f w) =
+does_sends {g = g} {c = c} {es = es} t k x at h ds inner label (lines.outputs {n = n} _ r f w) =
     let i = h n (ap (slice_get (es ++ n ∷ [])) at ∙ got_end es n) in
-    by_is i.is (subst (λ (u : Tree). IsDoing g c es (line.Out t) [] [] (es ++ n ∷ []) (call_text (codes "out") (tree_text u ∷ [])) []) (sym i.same) (told.outputs t n))
+    by_is i.is (subst (λ (u : Tree). IsDoing g ds c es (line.Out t) [] [] (es ++ n ∷ []) (call_text (codes "out") (term_told ds u ∷ [])) []) (sym i.same) (told.outputs t n))
 
 pub does_sends_on : {g : Sig} {c d : Config} {es fs : List Tree} (t k j : ℕ) (x : Doing) → j ≡ length es → AreOfEntries fs k j does.SendsOn x → DoesHere g c es d fs (line.Send t k) x
-does_sends_on {g = g} {c = c} {es = es} t k j x at h inner label (lines.outputs_on {x = z} {u = u} _ _ r e f n w) =
+does_sends_on {g = g} {c = c} {es = es} t k j x at h ds inner label (lines.outputs_on {x = z} {u = u} _ _ r e f n w) =
     let i = h z u (got_front es u z k e) (ap (slice_get (es ++ u ∷ [])) at ∙ got_end es u) in
-    by_is i.is (subst (λ (a : Tree). IsDoing g c es (line.Send t k) [] label (es ++ u ∷ []) (call_text (codes "out") (tree_text a ∷ tree_text (tree i.right.now) ∷ [])) []) (sym i.left_same)
-    (subst (λ (b : Tree). IsDoing g c es (line.Send t k) [] label (es ++ u ∷ []) (call_text (codes "out") (tree_text z ∷ tree_text b ∷ [])) []) (sym i.right_same) (told.outputs_on t k u e)))
+    by_is i.is (subst (λ (a : Tree). IsDoing g ds c es (line.Send t k) [] label (es ++ u ∷ []) (call_text (codes "out") (term_told ds a ∷ term_told ds (tree i.right.now) ∷ [])) []) (sym i.left_same)
+    (subst (λ (b : Tree). IsDoing g ds c es (line.Send t k) [] label (es ++ u ∷ []) (call_text (codes "out") (term_told ds z ∷ term_told ds b ∷ [])) []) (sym i.right_same) (told.outputs_on t k u e)))
 
 pub does_knows : {g : Sig} {c d : Config} {es fs : List Tree} (k : ℕ) (x : Doing) → IsOfEntry fs k does.Gives x → DoesHere g c es d fs (line.Know k) x
-does_knows {g = g} {c = c} {es = es} k x h inner label (lines.knows _ z e) =
+does_knows {g = g} {c = c} {es = es} k x h ds inner label (lines.knows _ z e) =
     let i = h z e in
-    by_is i.is (subst (λ (u : Tree). IsDoing g c es (line.Know k) [] label es (tree_text u) []) (sym i.same) (told.knows k z e))
+    by_is i.is (subst (λ (u : Tree). IsDoing g ds c es (line.Know k) [] label es (term_told ds u) []) (sym i.same) (told.knows k z e))
 
 pub does_applies : {g : Sig} {c d : Config} {es fs : List Tree} (f ks : Bor (List ℕ)) (k : ℕ) (x : Doing) → k ≡ length es → IsOfEntry fs k (does.Applies f ks) x → DoesHere g c es d fs (line.Apply f.now ks.now) x
-does_applies {g = g} {c = c} {es = es} f ks k x at h inner label (lines.applies _ _ ts z p a m n w) =
+does_applies {g = g} {c = c} {es = es} f ks k x at h ds inner label (lines.applies _ _ ts z p a m n w) =
     let i = h z (ap (slice_get (es ++ z ∷ [])) at ∙ got_end es z) in
-    by_is i.is (subst (λ (u : Tree). IsDoing g c es (line.Apply f.now ks.now) [] [] (es ++ z ∷ []) (call_text f.now (map decimal ks.now) ++ (codes " = " ++ tree_text u)) []) (sym i.same) (told.applies f.now ks.now z))
+    by_is i.is (subst (λ (u : Tree). IsDoing g ds c es (line.Apply f.now ks.now) [] [] (es ++ z ∷ []) (call_text f.now (map decimal ks.now) ++ (codes " = " ++ term_told ds u)) []) (sym i.same) (told.applies f.now ks.now z))
 
 -- lines of a thread with a head
 pub does_made : {g : Sig} {c d : Config} {es fs : List Tree} (t n : ℕ) (f : Form) (x : Doing) → HasHead c t f → IsMade n f x → DoesHere g c es d fs (line.New t n) x
-does_made {g = g} {c = c} {es = es} t n f x h m inner label (lines.makes_name {x = v} {p = p} _ _ r u) =
+does_made {g = g} {c = c} {es = es} t n f x h m ds inner label (lines.makes_name {x = v} {p = p} _ _ r u) =
     let k = m v (new_form f v p h.first h.second (one_thread c t (form_proc f h.first h.second) (act (action.new v) p) h.runs r)) in
-    by_is k.2 (subst (λ (w : Var). IsDoing g c es (line.New t n) [] [] es (codes "new " ++ variable_text w) (bound_text (w, fresh n) ∷ [])) (sym k.1) (told.makes_name t n r))
+    by_is k.2 (subst (λ (w : Var). IsDoing g ds c es (line.New t n) [] [] es (codes "new " ++ variable_text w) (bound_text ds (w, fresh n) ∷ [])) (sym k.1) (told.makes_name t n r))
 
 module _ (laws : Laws) where
   -- what is made of normal forms is made of those that the line has
@@ -128,50 +130,50 @@ module _ (laws : Laws) where
   right_same g {n = n} {k = k} i o h = laws.one (equations g) n (tree o.right) k (subst (λ (u : Tree). IsNormalForm (equations g) u (tree o.right)) i.right_is o.right_form) h
 
   pub does_agrees : {g : Sig} {c d : Config} {es fs : List Tree} (t : ℕ) (f : Form) (x : Doing) → HasHead c t f → IsCompared (equations g) true f x → DoesHere g c es d fs (line.Then t) x
-  does_agrees {g = g} {c = c} {es = es} t f x h k inner label (lines.agrees {m = m} {n = n} {x = y} {y = z} {p = p} {q = q} _ r a b e w) =
+  does_agrees {g = g} {c = c} {es = es} t f x h k ds inner label (lines.agrees {m = m} {n = n} {x = y} {y = z} {p = p} {q = q} _ r a b e w) =
       let i = if_form f m n p q h.first h.second (one_thread c t (form_proc f h.first h.second) (test m n p q) h.runs r) in
       let o = k i.left i.right i.form in
-      by_is o.is (subst (λ (u : Tree). IsDoing g c es (line.Then t) (equal y z ∷ []) [] es (codes "if " ++ (tree_text u ++ (codes " = " ++ tree_text (tree o.right)))) (codes "then" ∷ [])) (sym (left_same g i o a))
-      (subst (λ (u : Tree). IsDoing g c es (line.Then t) (equal y z ∷ []) [] es (codes "if " ++ (tree_text y ++ (codes " = " ++ tree_text u))) (codes "then" ∷ [])) (sym (right_same g i o b)) (told.agrees t)))
+      by_is o.is (subst (λ (u : Tree). IsDoing g ds c es (line.Then t) (equal y z ∷ []) [] es (codes "if " ++ (term_told ds u ++ (codes " = " ++ term_told ds (tree o.right)))) (codes "then" ∷ [])) (sym (left_same g i o a))
+      (subst (λ (u : Tree). IsDoing g ds c es (line.Then t) (equal y z ∷ []) [] es (codes "if " ++ (term_told ds y ++ (codes " = " ++ term_told ds u))) (codes "then" ∷ [])) (sym (right_same g i o b)) (told.agrees t)))
 
   pub does_differs : {g : Sig} {c d : Config} {es fs : List Tree} (t : ℕ) (f : Form) (x : Doing) → HasHead c t f → IsCompared (equations g) false f x → DoesHere g c es d fs (line.Else t) x
-  does_differs {g = g} {c = c} {es = es} t f x h k inner label (lines.differs {m = m} {n = n} {x = y} {y = z} {p = p} {q = q} _ r a b e w) =
+  does_differs {g = g} {c = c} {es = es} t f x h k ds inner label (lines.differs {m = m} {n = n} {x = y} {y = z} {p = p} {q = q} _ r a b e w) =
       let i = if_form f m n p q h.first h.second (one_thread c t (form_proc f h.first h.second) (test m n p q) h.runs r) in
       let o = k i.left i.right i.form in
-      by_is o.is (subst (λ (u : Tree). IsDoing g c es (line.Else t) (different y z ∷ []) [] es (codes "if " ++ (tree_text u ++ (codes " = " ++ tree_text (tree o.right)))) (codes "else" ∷ [])) (sym (left_same g i o a))
-      (subst (λ (u : Tree). IsDoing g c es (line.Else t) (different y z ∷ []) [] es (codes "if " ++ (tree_text y ++ (codes " = " ++ tree_text u))) (codes "else" ∷ [])) (sym (right_same g i o b)) (told.differs t)))
+      by_is o.is (subst (λ (u : Tree). IsDoing g ds c es (line.Else t) (different y z ∷ []) [] es (codes "if " ++ (term_told ds u ++ (codes " = " ++ term_told ds (tree o.right)))) (codes "else" ∷ [])) (sym (left_same g i o a))
+      (subst (λ (u : Tree). IsDoing g ds c es (line.Else t) (different y z ∷ []) [] es (codes "if " ++ (term_told ds y ++ (codes " = " ++ term_told ds u))) (codes "else" ∷ [])) (sym (right_same g i o b)) (told.differs t)))
 
   pub does_inserts : {g : Sig} {c d : Config} {es fs : List Tree} (t : ℕ) (f : Form) (x : Doing) → HasHead c t f → IsInserted (equations g) f x → DoesHere g c es d fs (line.Insert t) x
-  does_inserts {g = g} {c = c} {es = es} t f x h k inner label (lines.inserts {m = m} {n = n} {k = y} {v = z} {p = p} _ r a b w) =
+  does_inserts {g = g} {c = c} {es = es} t f x h k ds inner label (lines.inserts {m = m} {n = n} {k = y} {v = z} {p = p} _ r a b w) =
       let i = insert_form f m n p h.first h.second (one_thread c t (form_proc f h.first h.second) (act (action.insert m n) p) h.runs r) in
       let o = k i.left i.right i.form in
-      by_is o.is (subst (λ (u : Tree). IsDoing g c es (line.Insert t) (inserted y z ∷ []) [] es (codes "insert " ++ (tree_text u ++ (codes ", " ++ tree_text (tree o.right)))) []) (sym (left_same g i o a))
-      (subst (λ (u : Tree). IsDoing g c es (line.Insert t) (inserted y z ∷ []) [] es (codes "insert " ++ (tree_text y ++ (codes ", " ++ tree_text u))) []) (sym (right_same g i o b)) (told.inserts t)))
+      by_is o.is (subst (λ (u : Tree). IsDoing g ds c es (line.Insert t) (inserted y z ∷ []) [] es (codes "insert " ++ (term_told ds u ++ (codes ", " ++ term_told ds (tree o.right)))) []) (sym (left_same g i o a))
+      (subst (λ (u : Tree). IsDoing g ds c es (line.Insert t) (inserted y z ∷ []) [] es (codes "insert " ++ (term_told ds y ++ (codes ", " ++ term_told ds u))) []) (sym (right_same g i o b)) (told.inserts t)))
 
   pub does_deletes : {g : Sig} {c d : Config} {es fs : List Tree} (t : ℕ) (f : Form) (x : Doing) → HasHead c t f → IsDeleted (equations g) f x → DoesHere g c es d fs (line.Delete t) x
-  does_deletes {g = g} {c = c} {es = es} t f x h k inner label (lines.deletes {m = m} {k = y} {p = p} _ r a w) =
+  does_deletes {g = g} {c = c} {es = es} t f x h k ds inner label (lines.deletes {m = m} {k = y} {p = p} _ r a w) =
       let i = delete_form f m p h.first h.second (one_thread c t (form_proc f h.first h.second) (act (action.delete m) p) h.runs r) in
       let o = k i.term i.form in
-      by_is o.is (subst (λ (u : Tree). IsDoing g c es (line.Delete t) (deleted y ∷ []) [] es (codes "delete " ++ tree_text u) []) (sym (one_same g i o a)) (told.deletes t))
+      by_is o.is (subst (λ (u : Tree). IsDoing g ds c es (line.Delete t) (deleted y ∷ []) [] es (codes "delete " ++ term_told ds u) []) (sym (one_same g i o a)) (told.deletes t))
 
   pub does_locks : {g : Sig} {c d : Config} {es fs : List Tree} (t : ℕ) (f : Form) (x : Doing) → HasHead c t f → IsLocked (equations g) f x → DoesHere g c es d fs (line.Lock t) x
-  does_locks {g = g} {c = c} {es = es} t f x h k inner label (lines.locks {m = m} {k = y} {i = n} {p = p} _ r a b w) =
+  does_locks {g = g} {c = c} {es = es} t f x h k ds inner label (lines.locks {m = m} {k = y} {i = n} {p = p} _ r a b w) =
       let i = lock_form f m n p h.first h.second (one_thread c t (form_proc f h.first h.second) (act (action.lock m n) p) h.runs r) in
       let o = k i.term n i.form in
-      by_is o.is (subst (λ (u : Tree). IsDoing g c es (line.Lock t) (locked y ∷ []) [] es (codes "lock " ++ tree_text u) (held_text u ∷ [])) (sym (one_same g i o a)) (told.locks t))
+      by_is o.is (subst (λ (u : Tree). IsDoing g ds c es (line.Lock t) (locked y ∷ []) [] es (codes "lock " ++ term_told ds u) (held_text ds u ∷ [])) (sym (one_same g i o a)) (told.locks t))
 
   pub does_unlocks : {g : Sig} {c d : Config} {es fs : List Tree} (t : ℕ) (f : Form) (x : Doing) → HasHead c t f → IsUnlocked (equations g) f x → DoesHere g c es d fs (line.Unlock t) x
-  does_unlocks {g = g} {c = c} {es = es} t f x h k inner label (lines.unlocks {m = m} {k = y} {i = n} {p = p} _ r a w) =
+  does_unlocks {g = g} {c = c} {es = es} t f x h k ds inner label (lines.unlocks {m = m} {k = y} {i = n} {p = p} _ r a w) =
       let i = unlock_form f m n p h.first h.second (one_thread c t (form_proc f h.first h.second) (act (action.unlock m n) p) h.runs r) in
       let o = k i.term n i.form in
-      by_is o.is (subst (λ (u : Tree). IsDoing g c es (line.Unlock t) (unlocked y ∷ []) [] es (codes "unlock " ++ tree_text u) (free_text u ∷ [])) (sym (one_same g i o a)) (told.unlocks t))
+      by_is o.is (subst (λ (u : Tree). IsDoing g ds c es (line.Unlock t) (unlocked y ∷ []) [] es (codes "unlock " ++ term_told ds u) (free_text ds u ∷ [])) (sym (one_same g i o a)) (told.unlocks t))
 
   pub does_misses : {g : Sig} {c d : Config} {es fs : List Tree} (t : ℕ) (f : Form) (x : Doing) → HasHead c t f → IsLooked (equations g) None f x → DoesHere g c es d fs (line.Missing t) x
-  does_misses {g = g} {c = c} {es = es} t f x h k inner label (lines.misses {m = m} {k = y} {x = v} {p = p} {q = q} _ r a b w) =
+  does_misses {g = g} {c = c} {es = es} t f x h k ds inner label (lines.misses {m = m} {k = y} {x = v} {p = p} {q = q} _ r a b w) =
       let i = lookup_form f m v p q h.first h.second (one_thread c t (form_proc f h.first h.second) (lookup m v p q) h.runs r) in
       let o = k i.term v i.form in
-      by_is o.2.is (subst (λ (z : Var). IsDoing g c es (line.Missing t) (missing y ∷ []) [] es (codes "lookup " ++ (tree_text (tree o.2.term) ++ (codes " as " ++ variable_text z))) (codes "nothing there" ∷ [])) (sym o.1)
-      (subst (λ (u : Tree). IsDoing g c es (line.Missing t) (missing y ∷ []) [] es (codes "lookup " ++ (tree_text u ++ (codes " as " ++ variable_text v))) (codes "nothing there" ∷ [])) (sym (one_same g i o.2 a)) (told.misses t r)))
+      by_is o.2.is (subst (λ (z : Var). IsDoing g ds c es (line.Missing t) (missing y ∷ []) [] es (codes "lookup " ++ (term_told ds (tree o.2.term) ++ (codes " as " ++ variable_text z))) (codes "nothing there" ∷ [])) (sym o.1)
+      (subst (λ (u : Tree). IsDoing g ds c es (line.Missing t) (missing y ∷ []) [] es (codes "lookup " ++ (term_told ds u ++ (codes " as " ++ variable_text v))) (codes "nothing there" ∷ [])) (sym (one_same g i o.2 a)) (told.misses t r)))
 
   -- the store has one value at the key of a lookup
   one_value : (g : Sig) (c : Config) (t : ℕ) (m x v n k u : Tree) (y z : Var) (p q a b : Proc) → Runs c t (lookup m y p q) → IsNormalForm (equations g) m x → c.store x ≡ Some v
@@ -200,15 +202,15 @@ module _ (laws : Laws) where
 
   pub does_finds : (r : Running) → MatchesExactly r.sig (configuration r) (terms_of r.known) → {d : Config} {fs : List Tree} (t : ℕ) (f : Form) (x : Doing) (o : Option (Bor Term)) → MatchOption o (FindsNothing r t) (λ w. WouldFind r t (tree w.now))
       → HasHead (configuration r) t f → IsLooked (equations r.sig) o f x → DoesHere r.sig (configuration r) (terms_of r.known) d fs (line.Found t) x
-  does_finds r exact t f x o s h k inner label (lines.finds {m = m} {k = y} {v = v} {x = z} {p = p} {q = q} _ run a held w) =
+  does_finds r exact t f x o s h k ds inner label (lines.finds {m = m} {k = y} {v = v} {x = z} {p = p} {q = q} _ run a held w) =
       let c : Config = configuration r in
       let es : List Tree = terms_of r.known in
       let at = found_is r exact t (found y v ∷ []) [] _ es m y v z p q o run a held (lines.finds t run a held w) s in
       let i = lookup_form f m z p q h.first h.second (one_thread c t (form_proc f h.first h.second) (lookup m z p q) h.runs run) in
       let u = k i.term z i.form in
-      by_is (u.2.is ∙ ap (does.Looks u.2.term u.0) at.1) (subst (λ (n : Var). IsDoing r.sig c es (line.Found t) (found y v ∷ []) [] es (codes "lookup " ++ (tree_text (tree u.2.term) ++ (codes " as " ++ variable_text n))) (bound_text (n, tree at.0.now) ∷ [])) (sym u.1)
-      (subst (λ (n : Tree). IsDoing r.sig c es (line.Found t) (found y v ∷ []) [] es (codes "lookup " ++ (tree_text n ++ (codes " as " ++ variable_text z))) (bound_text (z, tree at.0.now) ∷ [])) (sym (one_same r.sig i u.2 a))
-      (subst (λ (n : Tree). IsDoing r.sig c es (line.Found t) (found y v ∷ []) [] es (codes "lookup " ++ (tree_text y ++ (codes " as " ++ variable_text z))) (bound_text (z, n) ∷ [])) (sym at.2) (told.finds t run))))
+      by_is (u.2.is ∙ ap (does.Looks u.2.term u.0) at.1) (subst (λ (n : Var). IsDoing r.sig ds c es (line.Found t) (found y v ∷ []) [] es (codes "lookup " ++ (term_told ds (tree u.2.term) ++ (codes " as " ++ variable_text n))) (bound_text ds (n, tree at.0.now) ∷ [])) (sym u.1)
+      (subst (λ (n : Tree). IsDoing r.sig ds c es (line.Found t) (found y v ∷ []) [] es (codes "lookup " ++ (term_told ds n ++ (codes " as " ++ variable_text z))) (bound_text ds (z, tree at.0.now) ∷ [])) (sym (one_same r.sig i u.2 a))
+      (subst (λ (n : Tree). IsDoing r.sig ds c es (line.Found t) (found y v ∷ []) [] es (codes "lookup " ++ (term_told ds y ++ (codes " as " ++ variable_text z))) (bound_text ds (z, n) ∷ [])) (sym at.2) (told.finds t run))))
 
   -- a choice that fits turns the pattern into the normal term
   module _ (g : Sig) where
@@ -239,9 +241,9 @@ module _ (laws : Laws) where
         }
 
   -- what it agrees with is told of it
-  pub agree_texts : (b : List Binding) (σ : Choice) → Agrees b σ → map (λ (v : Var). bound_text (v, σ v)) (bound_vars b) ≡ binding_texts b
-  agree_texts [] σ a = refl
-  agree_texts (e ∷ es) σ a = let rest = agree_texts es σ a.1 in let here = a.0 in λ i. bound_text (e.var, here i) ∷ rest i
+  pub agree_texts : (ds : List Draw) (b : List Binding) (σ : Choice) → Agrees b σ → map (λ (v : Var). bound_text ds (v, σ v)) (bound_vars b) ≡ binding_texts ds b
+  agree_texts ds [] σ a = refl
+  agree_texts ds (e ∷ es) σ a = let rest = agree_texts ds es σ a.1 in let here = a.0 in λ i. bound_text ds (e.var, here i) ∷ rest i
 
   -- what is bound by the term is what the choice says
   pub record IsBoundAs (p : Tree) (σ : Choice) (K : List Binding → Doing) (x : Doing) : Type 0 where
@@ -254,8 +256,8 @@ module _ (laws : Laws) where
   bound_as σ p u K x one t (inl none_is) = absurd (none_is.of_none one σ t)
   bound_as σ p u K x one t (inr h) = record { bindings = h.0; is = h.1; vars = ap bound_vars h.2.is_match.extends.is ∙ h.2.is_match.extends.on; agrees = h.2.of_all one σ t }
 
-  pub bound_told : (p : Tree) (σ : Choice) (K : List Binding → Doing) (x : Doing) (h : IsBoundAs p σ K x) → bound_texts σ (tree_vars p) ≡ binding_texts h.bindings
-  bound_told p σ K x h = sym (ap (map (λ (v : Var). bound_text (v, σ v))) h.vars) ∙ agree_texts h.bindings σ h.agrees
+  pub bound_told : (ds : List Draw) (p : Tree) (σ : Choice) (K : List Binding → Doing) (x : Doing) (h : IsBoundAs p σ K x) → bound_texts ds σ (tree_vars p) ≡ binding_texts ds h.bindings
+  bound_told ds p σ K x h = sym (ap (map (λ (v : Var). bound_text ds (v, σ v))) h.vars) ∙ agree_texts ds h.bindings σ h.agrees
 
   entry_normal : (g : Sig) (c : Config) (es : List Tree) → MatchesExactly g c es → (k : ℕ) (x : Tree) → slice_get es k ≡ Some x → IsNormal (equations g) x
   entry_normal g c es exact k x e = All-contains (IsNormal (equations g)) es x exact.entries (contains_got es x k e)
@@ -268,26 +270,26 @@ module _ (laws : Laws) where
   recv_sorts {n = n} h i = subst (λ (u : Tree). HaveOneSort (tree_vars u)) i.right_is (h.sorts (tree i.right) (subst (λ (y : Form). Contains (taken_patterns y) (tree i.right)) (sym i.form) (first_item (tree i.right) [])))
 
   pub does_takes : {g : Sig} {c d : Config} {es fs : List Tree} → MatchesExactly g c es → (t k : ℕ) (f : Form) (x : Doing) → HasHead c t f → IsTakenAt fs k f x → DoesHere g c es d fs (line.In t k) x
-  does_takes {g = g} {c = c} {es = es} exact t k f x h s inner label (lines.inputs {n = n} {x = u} {p = p} _ _ σ run e fits) =
+  does_takes {g = g} {c = c} {es = es} exact t k f x h s ds inner label (lines.inputs {n = n} {x = u} {p = p} _ _ σ run e fits) =
       let a = s u e in
       let i = in_form f n p h.first h.second (one_thread c t (form_proc f h.first h.second) (act (action.input n) p) h.runs run) in
       let there = turned g σ n u fits.messages (All-head (IsPattern (equations g)) n [] (exact.patterns_are t (act (action.input n) p) run)) (entry_normal g c es exact k u e) fits.equal in
       let fitted : IsFitted n u (does.Takes a.term false) x = subst (λ (w : Tree). IsFitted w u (does.Takes a.term false) x) i.is (subst (λ (w : Tree). IsFitted (tree i.term) w (does.Takes a.term false) x) a.same (a.by.alone i.term i.form)) in
       let b = bound_as σ n u (does.Takes a.term false) x (in_sorts h i) there fitted in
-      by_is b.is (subst (λ (w : Tree). IsDoing g c es (line.In t k) [] label es (call_text (codes "in") (tree_text w ∷ [])) (binding_texts b.bindings)) (sym a.same)
-      (subst (λ (w : List (List ℕ)). IsDoing g c es (line.In t k) [] label es (call_text (codes "in") (tree_text u ∷ [])) w) (bound_told n σ (does.Takes a.term false) x b) (told.inputs t k σ run e fits)))
-  does_takes {g = g} {c = c} {es = es} exact t k f x h s inner label (lines.inputs_on {m = m} {n = n} {x = u} {p = p} _ _ σ run e messages same w) =
+      by_is b.is (subst (λ (w : Tree). IsDoing g ds c es (line.In t k) [] label es (call_text (codes "in") (term_told ds w ∷ [])) (binding_texts ds b.bindings)) (sym a.same)
+      (subst (λ (w : List (List ℕ)). IsDoing g ds c es (line.In t k) [] label es (call_text (codes "in") (term_told ds u ∷ [])) w) (bound_told ds n σ (does.Takes a.term false) x b) (told.inputs t k σ run e fits)))
+  does_takes {g = g} {c = c} {es = es} exact t k f x h s ds inner label (lines.inputs_on {m = m} {n = n} {x = u} {p = p} _ _ σ run e messages same w) =
       let a = s u e in
       let i = recv_form f m n p h.first h.second (one_thread c t (form_proc f h.first h.second) (act (action.receive m n) p) h.runs run) in
       let parts = pair_parts g m (instance σ n) u (entry_normal g c es exact k u e) same in
       let there = turned g σ n parts.second messages (All-head (IsPattern (equations g)) n [] (exact.patterns_are t (act (action.receive m n) p) run)) parts.second_form.normal parts.second_form.equal in
       let fitted : IsFitted n parts.second (does.Takes a.term true) x = subst (λ (v : Tree). IsFitted v parts.second (does.Takes a.term true) x) i.right_is (a.by.on_channel i.left i.right i.form parts.first parts.second (a.same ∙ parts.is)) in
       let b = bound_as σ n parts.second (does.Takes a.term true) x (recv_sorts h i) there fitted in
-      by_is b.is (subst (λ (v : Tree). IsDoing g c es (line.In t k) [] label es (call_text (codes "in") (term_text true v ∷ [])) (binding_texts b.bindings)) (sym a.same)
-      (subst (λ (v : List (List ℕ)). IsDoing g c es (line.In t k) [] label es (call_text (codes "in") (term_text true u ∷ [])) v) (bound_told n σ (does.Takes a.term true) x b) (told.inputs_on t k σ run e messages same)))
+      by_is b.is (subst (λ (v : Tree). IsDoing g ds c es (line.In t k) [] label es (call_text (codes "in") (term_text true (named ds v) ∷ [])) (binding_texts ds b.bindings)) (sym a.same)
+      (subst (λ (v : List (List ℕ)). IsDoing g ds c es (line.In t k) [] label es (call_text (codes "in") (term_text true (named ds u) ∷ [])) v) (bound_told ds n σ (does.Takes a.term true) x b) (told.inputs_on t k σ run e messages same)))
 
   pub does_meets : {g : Sig} {c d : Config} {es fs : List Tree} → MatchesExactly g c es → (s t : ℕ) (k f : Form) (x : Doing) → HasHead c s k → HasHead c t f → IsMetBy (equations g) k f x → DoesHere g c es d fs (line.Sync s t) x
-  does_meets {g = g} {c = c} {es = es} exact s t k f x j h y inner label (lines.meets {m = m} {n = n} {l = l} {r = r} {p = p} {q = q} _ _ σ run_s run_t chan fits w) =
+  does_meets {g = g} {c = c} {es = es} exact s t k f x j h y ds inner label (lines.meets {m = m} {n = n} {l = l} {r = r} {p = p} {q = q} _ _ σ run_s run_t chan fits w) =
       let a = send_form k m n p j.first j.second (one_thread c s (form_proc k j.first j.second) (act (action.send m n) p) j.runs run_s) in
       let i = recv_form f l r q h.first h.second (one_thread c t (form_proc f h.first h.second) (act (action.receive l r) q) h.runs run_t) in
       let o = y a.left a.right i.left i.right a.form i.form in
@@ -296,4 +298,4 @@ module _ (laws : Laws) where
       let there = turned g σ r (tree o.1) fits.messages (All-head (IsPattern (equations g)) r [] (exact.patterns_are t (act (action.receive l r) q) run_t)) second.normal (laws.kept.onwards (equations g) (instance σ r) n (tree o.1) fits.equal second.equal) in
       let fitted : IsFitted r (tree o.1) (does.Meets o.0 o.1) x = subst (λ (v : Tree). IsFitted v (tree o.1) (does.Meets o.0 o.1) x) i.right_is o.4 in
       let b = bound_as σ r (tree o.1) (does.Meets o.0 o.1) x (recv_sorts h i) there fitted in
-      by_is b.is (subst (λ (v : List (List ℕ)). IsDoing g c es (line.Sync s t) [] [] es (call_text (codes "out") (tree_text (tree o.0) ∷ tree_text (tree o.1) ∷ [])) v) (bound_told r σ (does.Meets o.0 o.1) x b) (told.meets s t σ run_s run_t first second fits))
+      by_is b.is (subst (λ (v : List (List ℕ)). IsDoing g ds c es (line.Sync s t) [] [] es (call_text (codes "out") (term_told ds (tree o.0) ∷ term_told ds (tree o.1) ∷ [])) v) (bound_told ds r σ (does.Meets o.0 o.1) x b) (told.meets s t σ run_s run_t first second fits))

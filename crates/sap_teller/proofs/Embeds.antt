@@ -11,6 +11,7 @@ use Rattle.std.proofs.lemmas.Grind.{flat_map-append}
 use Rattle.sap_calc.specs.ThreadHeads.{HasHead}
 use Rattle.sap_facts.specs.Cited.{cited_at}
 use Rattle.sap_facts.specs.Facts.{fact_at, standing}
+use Rattle.sap_called.specs.NamedTerms.{named_facts}
 use Rattle.sap_grammar.specs.FactText.{facts_text, arrow_text}
 use Rattle.sap_lines.specs.Answers.{MatchesExactly}
 use Rattle.sap_lines.specs.Lines as lines
@@ -242,7 +243,7 @@ module _ (laws : Laws) (g : Sig) where
 
 pub does_embeds : (laws : Laws) {g : Sig} {c d : Config} {es fs : List Tree} → MatchesExactly g c es → (t n : ℕ) (ks : List ℕ) (b : Bor (List Binding)) (f : Form) (x : Doing) → n ≡ length c.facts → HasHead c t f
     → IsUsedAt (cited_at c.facts ks) d.facts n b f x → DoesHere g c es d fs (line.Embedded t ks b.now) x
-does_embeds laws {g = g} {c = c} {es = es} exact t n ks b f x count h u inner label (lines.embeds {l = l} {e = e} {r = r} {rest = rest} {p = p} _ _ _ σ left acts right run messages vars agrees same takes forms_e forms_r w) =
+does_embeds laws {g = g} {c = c} {es = es} exact t n ks b f x count h u ds inner label (lines.embeds {l = l} {e = e} {r = r} {rest = rest} {p = p} _ _ _ σ left acts right run messages vars agrees same takes forms_e forms_r w) =
     let process : form_proc f h.first h.second ≡ act (action.embedded l e r) p = cc (h.runs, run) in
     let i = rule_form f l e r p h.first h.second process in
     let cited : left ≡ cited_at c.facts ks = taken_cited c.facts (λ j y k. k) takes in
@@ -259,9 +260,9 @@ does_embeds laws {g = g} {c = c} {es = es} exact t n ks b f x count h u inner la
     let o = bound_as laws σ (together l) (together left) K x (rule_sorts laws g l e r (exact.sorts t l e r p run)) there fitted in
     let all_vars : new_vars [] (facts_vars (l ++ (e ++ r))) ≡ bound_vars o.bindings ++ bound_vars b.now =
     ap (new_vars []) (facts_vars_append l (e ++ r)) ∙ new_behind (facts_vars l) (facts_vars (e ++ r)) ∙ (λ i. (ap (new_vars []) (sym (together_vars l)) ∙ sym o.vars) i ++ sym vars i) in
-    let text = λ (v : Var). bound_text (v, σ v) in
-    let texts : bound_texts σ (facts_vars (l ++ (e ++ r))) ≡ binding_texts o.bindings ++ binding_texts b.now =
-    ap (map text) all_vars ∙ map-append text (bound_vars o.bindings) (bound_vars b.now) ∙ (λ i. agree_texts laws o.bindings σ o.agrees i ++ agree_texts laws b.now σ agrees i) in
-    subst (λ (z : Doing). IsDoing g c es (line.Embedded t ks b.now) [] label es (action_of label z) (outcomes_of z)) (sym o.is)
-    (subst (λ (ys : List Fact). IsDoing g c es (line.Embedded t ks b.now) [] label es (facts_text ys ++ (arrow_text label ++ facts_text right)) (binding_texts o.bindings ++ binding_texts b.now)) (sym lent)
-    (subst (λ (z : List (List ℕ)). IsDoing g c es (line.Embedded t ks b.now) [] label es (facts_text left ++ (arrow_text label ++ facts_text right)) z) texts (told.embeds t ks b.now σ left acts right run messages agrees same takes forms_e forms_r)))
+    let text = λ (v : Var). bound_text ds (v, σ v) in
+    let texts : bound_texts ds σ (facts_vars (l ++ (e ++ r))) ≡ binding_texts ds o.bindings ++ binding_texts ds b.now =
+    ap (map text) all_vars ∙ map-append text (bound_vars o.bindings) (bound_vars b.now) ∙ (λ i. agree_texts laws ds o.bindings σ o.agrees i ++ agree_texts laws ds b.now σ agrees i) in
+    subst (λ (z : Doing). IsDoing g ds c es (line.Embedded t ks b.now) [] label es (action_of ds label z) (outcomes_of ds z)) (sym o.is)
+    (subst (λ (ys : List Fact). IsDoing g ds c es (line.Embedded t ks b.now) [] label es (facts_text (named_facts ds ys) ++ (arrow_text (named_facts ds label) ++ facts_text (named_facts ds right))) (binding_texts ds o.bindings ++ binding_texts ds b.now)) (sym lent)
+    (subst (λ (z : List (List ℕ)). IsDoing g ds c es (line.Embedded t ks b.now) [] label es (facts_text (named_facts ds left) ++ (arrow_text (named_facts ds label) ++ facts_text (named_facts ds right))) z) texts (told.embeds t ks b.now σ left acts right run messages agrees same takes forms_e forms_r)))

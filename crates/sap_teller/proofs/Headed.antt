@@ -60,12 +60,12 @@ runs_some t (lines.knows k x i) e = absurd (cc)
 
 -- so a line by the head of its thread has that head
 pub by_head : {g : Sig} {c d : Config} {es fs : List Tree} {step : PStep} (x : Doing) (t : ℕ) (o : Option (Box Form)) (f : Form) → form_at o ≡ f → head_of step ≡ Some t → IsHead c (Some t) o → (HasHead c t f → DoesHere g c es d fs step x) → DoesHere g c es d fs step x
-by_head x t None f here e none_is k inner label l = let some = runs_some t l e in absurd (none_is some.0 some.1)
-by_head {c = c} x t (Some a) f here e h k inner label l = k (subst (λ (y : Form). HasHead c t y) here h) inner label l
+by_head x t None f here e none_is k ds inner label l = let some = runs_some t l e in absurd (none_is some.0 some.1)
+by_head {c = c} x t (Some a) f here e h k ds inner label l = k (subst (λ (y : Form). HasHead c t y) here h) ds inner label l
 
 pub by_sender : {g : Sig} {c d : Config} {es fs : List Tree} (x : Doing) (s t : ℕ) (o : Option (Box Form)) (f : Form) → form_at o ≡ f → IsHead c (Some s) o → (HasHead c s f → DoesHere g c es d fs (line.Sync s t) x) → DoesHere g c es d fs (line.Sync s t) x
-by_sender x s t None f here none_is k inner label (lines.meets {m = m} {n = n} {p = p} _ _ σ q r i h w) = absurd (none_is (act (action.send m n) p) q)
-by_sender {c = c} x s t (Some a) f here h k inner label l = k (subst (λ (y : Form). HasHead c s y) here h) inner label l
+by_sender x s t None f here none_is k ds inner label (lines.meets {m = m} {n = n} {p = p} _ _ σ q r i h w) = absurd (none_is (act (action.send m n) p) q)
+by_sender {c = c} x s t (Some a) f here h k ds inner label l = k (subst (λ (y : Form). HasHead c s y) here h) ds inner label l
 
 none_added : (facts : Pile) → length facts ≡ length facts + 0
 none_added facts = omega arith

@@ -10,3 +10,4 @@ mod Seconds
 mod OneLine
 mod ToldRuns
 mod Plain
+mod Noted

@@ -2,11 +2,13 @@
 use Rattle.std.proofs.Common.{◌≡◌, ◌+◌, ℕ, codes, decimal, List, ◌++◌, length, sym, ap, ◌∙◌, append_assoc, true, Result, Ok, Err, OnOk}
 use Rattle.std.specs.Prelude.{slice_get}
 use Rattle.std.proofs.lemmas.List.{length-map}
-use Rattle.sap_calc.specs.Running.{Running, IsDone}
+use Rattle.sap_called.specs.Names.{Draw}
+use Rattle.sap_calc.specs.Running.{Running, configuration, IsDone}
 use Rattle.sap_deduce.specs.Entries.{Entry, terms_of}
 use Rattle.sap_runs.specs.declared.process_step.PStep.{PStep}
 use Rattle.sap_terms.specs.declared.fact.Fact.{Fact}
 use Rattle.sap_teller.specs.Telling.{IsDoneAndTold, IsToldApart, IsToldOn}
+use Rattle.sap_tell.specs.Draws.{draws_after}
 use Rattle.sap_tell.specs.ThreadPaths.{paths_after}
 use Rattle.sap_tell.specs.ToldText.{actor_text, outcomes_text, seen_texts}
 use Rattle.sap_teller.specs.code.Doings.{action_of, outcomes_of}
@@ -22,65 +24,72 @@ use Rattle.sap_teller.proofs.Pieces.{outcomes_all, line_entries, seen_is}
 four : (a b c d e : List ℕ) → (a ++ (b ++ (c ++ d))) ++ e ≡ a ++ (b ++ (c ++ (d ++ e)))
 four a b c d e = append_assoc a (b ++ (c ++ d)) e ∙ ap (λ z. a ++ z) (append_assoc b (c ++ d) e ∙ ap (λ z. b ++ z) (append_assoc c d e))
 
-module _ (r z : Running) (kept : Before) (step : PStep) (label : List Fact) (x : Doing) (b : IsBefore r step kept) (h : IsDone r z step label) (does : Does r z step x) where
+module _ (r z : Running) (kept : Before) (step : PStep) (label : List Fact) (x : Doing) (b : IsBefore r step kept) (h : IsDone r z step label) (does : Does r z step x) (ds : List Draw) where
   entries_count : kept.entries ≡ length (terms_of r.known)
   entries_count = b.entries ∙ sym (length-map r.known (λ (e : Entry). e.term))
 
-  seen_here : shown_texts label kept.entries (slice_get (terms_of z.known) kept.entries) ≡ seen_texts label (terms_of r.known) (terms_of z.known)
-  seen_here = (λ i. shown_texts label (entries_count i) (slice_get (terms_of z.known) (entries_count i))) ∙ sym (seen_is label (terms_of r.known) (terms_of z.known) (line_entries h.line))
+  seen_here : shown_texts ds label kept.entries (slice_get (terms_of z.known) kept.entries) ≡ seen_texts ds label (terms_of r.known) (terms_of z.known)
+  seen_here = (λ i. shown_texts ds label (entries_count i) (slice_get (terms_of z.known) (entries_count i))) ∙ sym (seen_is ds label (terms_of r.known) (terms_of z.known) (line_entries h.line))
 
-  body_is : body_text label kept.entries (slice_get (terms_of z.known) kept.entries) x ≡ action_of label x ++ outcomes_text (seen_texts label (terms_of r.known) (terms_of z.known) ++ outcomes_of x)
-  body_is = ap (λ os. action_of label x ++ outcomes_from true (os ++ outcomes_of x)) seen_here ∙ ap (λ t. action_of label x ++ t) (sym (outcomes_all (seen_texts label (terms_of r.known) (terms_of z.known) ++ outcomes_of x)))
+  body_is : body_text ds label kept.entries (slice_get (terms_of z.known) kept.entries) x ≡ action_of ds label x ++ outcomes_text (seen_texts ds label (terms_of r.known) (terms_of z.known) ++ outcomes_of ds x)
+  body_is = ap (λ os. action_of ds label x ++ outcomes_from true (os ++ outcomes_of ds x)) seen_here ∙ ap (λ t. action_of ds label x ++ t) (sym (outcomes_all (seen_texts ds label (terms_of r.known) (terms_of z.known) ++ outcomes_of ds x)))
 
-  pub told_line : (number : ℕ) (paths : List (List ℕ)) → IsDoneAndTold r z number paths step label (numbered_text number (actor_text paths step) ++ body_text label kept.entries (slice_get (terms_of z.known) kept.entries) x)
+  pub told_line : (number : ℕ) (paths : List (List ℕ)) → IsDoneAndTold r z number paths ds step label (numbered_text number (actor_text paths step) ++ body_text ds label kept.entries (slice_get (terms_of z.known) kept.entries) x)
   told_line number paths = record {
     inner = h.inner;
     line = h.line;
     sig = h.sig;
     told = record {
-      doing = action_of label x;
-      outcomes = outcomes_of x;
-      done = does h.inner label h.line;
-      written = four (decimal number) (codes ". ") (actor_text paths step) (codes ": ") (body_text label kept.entries (slice_get (terms_of z.known) kept.entries) x)
+      doing = action_of ds label x;
+      outcomes = outcomes_of ds x;
+      done = does ds h.inner label h.line;
+      written = four (decimal number) (codes ". ") (actor_text paths step) (codes ": ") (body_text ds label kept.entries (slice_get (terms_of z.known) kept.entries) x)
           ∙ ap (λ t. decimal number ++ (codes ". " ++ (actor_text paths step ++ (codes ": " ++ t)))) body_is;
     };
   }
 
-  pub told_on : (a e : Along) (before first second after : List ℕ) → first ≡ before ++ numbered_text (a.lines + 1) (actor_text a.paths step) → second ≡ first ++ body_text label kept.entries (slice_get (terms_of z.known) kept.entries) x → after ≡ second ++ codes "\n"
-      → e.paths ≡ paths_after a.paths step → e.lines ≡ a.lines + 1 → e.facts ≡ kept.facts + added_by step (form_at kept.head) → IsToldOn r z a e before after step label
-  told_on a e before first second after p q s paths lines facts =
+module _ (r z : Running) (kept : Before) (step : PStep) (label : List Fact) (x : Doing) (b : IsBefore r step kept) (h : IsDone r z step label) (does : Does r z step x) where
+  -- what is done and what comes of it, where these names were drawn
+  abbrev body : List Draw → List ℕ
+  body ds = body_text ds label kept.entries (slice_get (terms_of z.known) kept.entries) x
+
+  pub told_on : (hs : List Draw) (a e : Along) (before first second after : List ℕ) → first ≡ before ++ numbered_text (a.lines + 1) (actor_text a.paths step) → second ≡ first ++ body_text hs label kept.entries (slice_get (terms_of z.known) kept.entries) x → after ≡ second ++ codes "\n"
+      → e.names ≡ hs → hs ≡ draws_after a.names (configuration r) step → e.paths ≡ paths_after a.paths step → e.lines ≡ a.lines + 1 → e.facts ≡ kept.facts + added_by step (form_at kept.head) → IsToldOn r z a e before after step label
+  told_on hs a e before first second after p q s same drawn paths lines facts =
       let start = numbered_text (a.lines + 1) (actor_text a.paths step) in
-      let body = body_text label kept.entries (slice_get (terms_of z.known) kept.entries) x in
+      let there : second ≡ first ++ body e.names = q ∙ ap (λ ds. first ++ body ds) (sym same) in
       record {
-        told = start ++ body;
-        done = told_line (a.lines + 1) a.paths;
-        text = s ∙ ap (λ t. t ++ codes "\n") (q ∙ ap (λ t. t ++ body) p ∙ append_assoc before start body) ∙ append_assoc before (start ++ body) (codes "\n");
+        told = start ++ body e.names;
+        done = told_line r z kept step label x b h does e.names (a.lines + 1) a.paths;
+        text = s ∙ ap (λ t. t ++ codes "\n") (there ∙ ap (λ t. t ++ body e.names) p ∙ append_assoc before start (body e.names)) ∙ append_assoc before (start ++ body e.names) (codes "\n");
         paths = paths;
+        names = same ∙ drawn;
         lines = lines;
         facts = facts ∙ ap (λ n. n + added_by step (form_at kept.head)) b.facts ∙ sym (facts_grow kept.head b.head h.line);
       }
 
   -- the same where the line feed is missing and what it does is told apart
-  pub apart_on : (a e : Along) (before first second apart_before apart_after : List ℕ) → first ≡ before ++ numbered_text (a.lines + 1) (actor_text a.paths step) → second ≡ first ++ body_text label kept.entries (slice_get (terms_of z.known) kept.entries) x → apart_after ≡ apart_before ++ apart_text label x
-      → e.paths ≡ paths_after a.paths step → e.lines ≡ a.lines + 1 → e.facts ≡ kept.facts + added_by step (form_at kept.head) → IsToldApart r z a e before second apart_before apart_after step label
+  pub apart_on : (hs : List Draw) (a e : Along) (before first second apart_before apart_after : List ℕ) → first ≡ before ++ numbered_text (a.lines + 1) (actor_text a.paths step) → second ≡ first ++ body_text hs label kept.entries (slice_get (terms_of z.known) kept.entries) x → apart_after ≡ apart_before ++ apart_text hs label x
+      → e.names ≡ hs → hs ≡ draws_after a.names (configuration r) step → e.paths ≡ paths_after a.paths step → e.lines ≡ a.lines + 1 → e.facts ≡ kept.facts + added_by step (form_at kept.head) → IsToldApart r z a e before second apart_before apart_after step label
   unfolding told_line
-  apart_on a e before first second apart_before apart_after p q s paths lines facts =
+  apart_on hs a e before first second apart_before apart_after p q s same drawn paths lines facts =
       let start = numbered_text (a.lines + 1) (actor_text a.paths step) in
-      let body = body_text label kept.entries (slice_get (terms_of z.known) kept.entries) x in
+      let there : second ≡ first ++ body e.names = q ∙ ap (λ ds. first ++ body ds) (sym same) in
       record {
-        told = start ++ body;
-        done = told_line (a.lines + 1) a.paths;
-        text = q ∙ ap (λ t. t ++ body) p ∙ append_assoc before start body;
-        apart = s ∙ ap (λ t. apart_before ++ (action_of label x ++ t)) (sym (outcomes_all (outcomes_of x)));
+        told = start ++ body e.names;
+        done = told_line r z kept step label x b h does e.names (a.lines + 1) a.paths;
+        text = there ∙ ap (λ t. t ++ body e.names) p ∙ append_assoc before start (body e.names);
+        apart = s ∙ ap (λ ds. apart_before ++ apart_text ds label x) (sym same) ∙ ap (λ t. apart_before ++ (action_of e.names label x ++ t)) (sym (outcomes_all (outcomes_of e.names x)));
         paths = paths;
+        names = same ∙ drawn;
         lines = lines;
         facts = facts ∙ ap (λ n. n + added_by step (form_at kept.head)) b.facts ∙ sym (facts_grow kept.head b.head h.line);
       }
 
--- what follows from three things that are so where all went well
-pub on_ok_three : {V E : Type 0} (r : Result V E) (A B C D : Type 0) → (A → B → C → D) → OnOk r A → OnOk r B → OnOk r C → OnOk r D
-on_ok_three (Ok v) A B C D f a b c = f a b c
-on_ok_three (Err e) A B C D f a b c = tt
+-- what follows from four things that are so where all went well
+pub on_ok_four : {V E : Type 0} (r : Result V E) (A B C D F : Type 0) → (A → B → C → D → F) → OnOk r A → OnOk r B → OnOk r C → OnOk r D → OnOk r F
+on_ok_four (Ok v) A B C D F f a b c d = f a b c d
+on_ok_four (Err e) A B C D F f a b c d = tt
 
 -- and from one
 pub on_ok_one : {V E : Type 0} (r : Result V E) (A B : Type 0) → (A → B) → OnOk r A → OnOk r B

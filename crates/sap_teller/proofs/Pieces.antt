@@ -3,6 +3,7 @@ use Rattle.std.proofs.Common.{◌≡◌, ◌+◌, ℕ, Bool, true, false, ◌&&�
 use Rattle.std.specs.Cmp.{unsigned_Decides}
 use Rattle.std.specs.Prelude.{slice_get}
 use Rattle.std.proofs.lemmas.List.{append-nil}
+use Rattle.sap_called.specs.Names.{Draw}
 use Rattle.sap_grammar.specs.Pieces.{joined}
 use Rattle.sap_lines.specs.Lines as lines
 use Rattle.sap_lines.specs.Lines.{IsProcessLine}
@@ -92,18 +93,18 @@ line_entries (lines.writes a) = inr (_, refl)
 line_entries (lines.applies f ks ts x p a m n w) = inr (x, refl)
 line_entries (lines.knows k x e) = inl refl
 
-none_more : (es : List Tree) (k : ℕ) → known_texts k (drop (length es) es) ≡ known_text k (slice_get es (length es))
-none_more [] k = refl
-none_more (e ∷ es) k = none_more es k
+none_more : (ds : List Draw) (es : List Tree) (k : ℕ) → known_texts ds k (drop (length es) es) ≡ known_text ds k (slice_get es (length es))
+none_more ds [] k = refl
+none_more ds (e ∷ es) k = none_more ds es k
 
-one_more : (es : List Tree) (x : Tree) (k : ℕ) → known_texts k (drop (length es) (es ++ x ∷ [])) ≡ known_text k (slice_get (es ++ x ∷ []) (length es))
-one_more [] x k = refl
-one_more (e ∷ es) x k = one_more es x k
+one_more : (ds : List Draw) (es : List Tree) (x : Tree) (k : ℕ) → known_texts ds k (drop (length es) (es ++ x ∷ [])) ≡ known_text ds k (slice_get (es ++ x ∷ []) (length es))
+one_more ds [] x k = refl
+one_more ds (e ∷ es) x k = one_more ds es x k
 
 -- so this is what is seen
-pub seen_is : (label : List Fact) (es fs : List Tree) → (fs ≡ es) ⊎ ((x : Tree) × (fs ≡ es ++ x ∷ [])) → seen_texts label es fs ≡ shown_texts label (length es) (slice_get fs (length es))
-seen_is label es fs (inl e) = ap (λ k. map shows_text label ++ k) ((λ i. known_texts (length es) (drop (length es) (e i))) ∙ none_more es (length es) ∙ (λ i. known_text (length es) (slice_get (sym e i) (length es))))
-seen_is label es fs (inr h) = ap (λ k. map shows_text label ++ k) ((λ i. known_texts (length es) (drop (length es) (h.1 i))) ∙ one_more es h.0 (length es) ∙ (λ i. known_text (length es) (slice_get (sym h.1 i) (length es))))
+pub seen_is : (ds : List Draw) (label : List Fact) (es fs : List Tree) → (fs ≡ es) ⊎ ((x : Tree) × (fs ≡ es ++ x ∷ [])) → seen_texts ds label es fs ≡ shown_texts ds label (length es) (slice_get fs (length es))
+seen_is ds label es fs (inl e) = ap (λ k. map (shows_text ds) label ++ k) ((λ i. known_texts ds (length es) (drop (length es) (e i))) ∙ none_more ds es (length es) ∙ (λ i. known_text ds (length es) (slice_get (sym e i) (length es))))
+seen_is ds label es fs (inr h) = ap (λ k. map (shows_text ds) label ++ k) ((λ i. known_texts ds (length es) (drop (length es) (h.1 i))) ∙ one_more ds es h.0 (length es) ∙ (λ i. known_text ds (length es) (slice_get (sym h.1 i) (length es))))
 
 still_counted : {X : Type 0} (f : X → List ℕ) (first : Bool) (xs : List X) → still_first first (map f xs) ≡ (first && nat_eq (length xs) 0)
 still_counted f true [] = refl
@@ -112,14 +113,14 @@ still_counted f true (x ∷ xs) = sym (suc_not (length xs))
 still_counted f false (x ∷ xs) = refl
 
 -- what is shown, and then an entry
-pub seen_known : (text : List ℕ) (label : List Fact) (k : ℕ) (o : Option Tree) (x : Tree) → Some x ≡ o
-    → (text ++ outcomes_from true (map shows_text label)) ++ (before_outcome (nat_eq (length label) 0) ++ knows_text k x) ≡ text ++ outcomes_from true (shown_texts label k o)
-seen_known text label k o x e =
-    let shows = map shows_text label in
-    let last = knows_text k x in
+pub seen_known : (ds : List Draw) (text : List ℕ) (label : List Fact) (k : ℕ) (o : Option Tree) (x : Tree) → Some x ≡ o
+    → (text ++ outcomes_from true (map (shows_text ds) label)) ++ (before_outcome (nat_eq (length label) 0) ++ knows_text ds k x) ≡ text ++ outcomes_from true (shown_texts ds label k o)
+seen_known ds text label k o x e =
+    let shows = map (shows_text ds) label in
+    let last = knows_text ds k x in
     append_assoc text (outcomes_from true shows) (before_outcome (nat_eq (length label) 0) ++ last)
-    ∙ ap (λ z. text ++ z) (ap (λ b. outcomes_from true shows ++ (before_outcome b ++ last)) (sym (still_counted shows_text true label))
-    ∙ ap (λ z. outcomes_from true shows ++ z) (sym (one_outcome (still_first true shows) last)) ∙ sym (outcomes_append true shows (last ∷ [])) ∙ (λ i. outcomes_from true (shown_texts label k (e i))))
+    ∙ ap (λ z. text ++ z) (ap (λ b. outcomes_from true shows ++ (before_outcome b ++ last)) (sym (still_counted (shows_text ds) true label))
+    ∙ ap (λ z. outcomes_from true shows ++ z) (sym (one_outcome (still_first true shows) last)) ∙ sym (outcomes_append true shows (last ∷ [])) ∙ (λ i. outcomes_from true (shown_texts ds label k (e i))))
 
 -- outcomes behind others
 pub two_lists : {X Y : Type 0} (f : X → List ℕ) (h : Y → List ℕ) (text : List ℕ) (first : Bool) (xs : List X) (ys : List Y)

@@ -14,6 +14,7 @@ use Rattle.sap_runs.specs.Marks.{marks_of}
 use Rattle.sap_runs.specs.declared.process_step.PStep.{PStep}
 use Rattle.sap_terms.specs.Signature.{Sig, HoldsBuiltins}
 use Rattle.sap_teller.specs.Telling.{IsToldAs}
+use Rattle.sap_tell.specs.Draws.{draws_after}
 use Rattle.sap_tell.specs.ThreadPaths.{paths_from, paths_after, thread_paths}
 use Rattle.sap_tell.specs.Told as told
 use Rattle.sap_tell.specs.Told.{IsToldRun, IsToldLine}
@@ -31,10 +32,10 @@ length_more lines step = length-append lines (step ∷ [])
 
 module _ (legal : ToldRunsAreLegal) (g : Sig) (p : Proc) where
   -- before the first line
-  pub none_told : (z : Running) (a : Along) (t : ToldRun) → z.sig ≡ g → z.known ≡ [] → configuration z ≡ initial p → a.paths ≡ [] ∷ [] → a.lines ≡ 0 → a.facts ≡ 0 → t.text ≡ [] → t.trace ≡ [] → IsToldSoFar g p [] z a t
-  none_told z a t sig known start paths lines facts text trace = record {
+  pub none_told : (z : Running) (a : Along) (t : ToldRun) → z.sig ≡ g → z.known ≡ [] → configuration z ≡ initial p → a.paths ≡ [] ∷ [] → a.lines ≡ 0 → a.facts ≡ 0 → a.names ≡ [] → t.text ≡ [] → t.trace ≡ [] → IsToldSoFar g p [] z a t
+  none_told z a t sig known start paths lines facts names text trace = record {
     marks = [];
-    run = rw (start, known, text, trace) told.starts;
+    run = rw (start, known, text, trace, names) told.starts;
     sig = sig;
     count = lines;
     paths = paths;
@@ -46,11 +47,11 @@ module _ (legal : ToldRunsAreLegal) (g : Sig) (p : Proc) where
   more_told lines y z a b t u step h n =
       let done = n.done.done in
       let number : a.lines + 1 ≡ length lines + 1 = ap (λ k. k + 1) h.count in
-      let line : IsToldLine g (length lines + 1) (thread_paths lines) (configuration y) (terms_of y.known) step done.inner n.label (terms_of z.known) n.done.told =
-      rw (← h.sig, ← number, ← h.paths) done.told in
+      let line : IsToldLine g (length lines + 1) (thread_paths lines) (draws_after a.names (configuration y) step) (configuration y) (terms_of y.known) step done.inner n.label (terms_of z.known) n.done.told =
+      rw (← h.sig, ← number, ← h.paths, ← n.done.names) done.told in
       record {
         marks = h.marks ++ marks_of done.inner n.label;
-        run = rw (n.grows, n.done.text) (told.further {d = configuration z} {fs = terms_of z.known} step done.inner n.label n.done.told h.run (rw (← h.sig) done.line) line);
+        run = rw (n.grows, n.done.text, n.done.names) (told.further {d = configuration z} {fs = terms_of z.known} step done.inner n.label n.done.told h.run (rw (← h.sig) done.line) line);
         sig = done.sig ∙ h.sig;
         count = n.done.lines ∙ number ∙ sym (length_more lines step);
         paths = n.done.paths ∙ ap (λ ps. paths_after ps step) h.paths ∙ sym (paths_more ([] ∷ []) lines step);
@@ -60,9 +61,9 @@ module _ (legal : ToldRunsAreLegal) (g : Sig) (p : Proc) where
   -- what lines match there is matched exactly
   pub told_exactly : RunsMatchExactly → SmallProcessRunsAreLegal → HoldsBuiltins g → IsReady g p → (lines : List PStep) (z : Running) (a : Along) (t : ToldRun) → IsToldSoFar g p lines z a t → MatchesExactly g (configuration z) (terms_of z.known)
   told_exactly exact small builtins ready lines z a t h =
-      exact g p lines (configuration z) (terms_of z.known) t.trace h.marks builtins ready (small g p lines (configuration z) (terms_of z.known) t.trace h.marks (legal g p lines (configuration z) (terms_of z.known) t.trace h.marks t.text h.run))
+      exact g p lines (configuration z) (terms_of z.known) t.trace h.marks builtins ready (small g p lines (configuration z) (terms_of z.known) t.trace h.marks (legal g p lines (configuration z) (terms_of z.known) t.trace h.marks a.names t.text h.run))
 
-  pub all_told : (lines : List PStep) (z : Running) (a : Along) (t : ToldRun) → IsToldSoFar g p lines z a t → IsToldAs g p lines t.trace t.text
+  pub all_told : (lines : List PStep) (z : Running) (a : Along) (t : ToldRun) → IsToldSoFar g p lines z a t → IsToldAs g p lines t.trace a.names t.text
   all_told lines z a t h = record { config = configuration z; entries = terms_of z.known; marks = h.marks; run = h.run }
 
   cut_at : {X : Type 0} (xs : List X) (k : ℕ) (x : X) → slice_get xs k ≡ Some x → xs ≡ take k xs ++ x ∷ drop (k + 1) xs
@@ -87,7 +88,7 @@ module _ (legal : ToldRunsAreLegal) (g : Sig) (p : Proc) where
     entries = terms_of z.known;
     trace = t.trace;
     marks = h.marks;
-    legal = legal g p (take k run) (configuration z) (terms_of z.known) t.trace h.marks t.text h.run;
+    legal = legal g p (take k run) (configuration z) (terms_of z.known) t.trace h.marks a.names t.text h.run;
     refused = rw (← h.sig) d.denied;
     cause = d.cause;
   }

@@ -6,7 +6,7 @@ ghost use Rattle.sap_lines.specs.Answers.{MatchesExactly};
 ghost use Rattle.sap_teller.specs.Telling.{IsToldApart, IsToldOn};
 ghost use Rattle.sap_tell.specs.ThreadPaths.{paths_after};
 ghost use Rattle.sap_tell.specs.ToldText.{actor_text};
-ghost use Rattle.sap_teller.specs.code.Heads.{added_by, form_at, IsBefore};
+ghost use Rattle.sap_teller.specs.code.Heads.{added_by, form_at, form_of, noted, IsBefore};
 ghost use Rattle.sap_teller.specs.code.Lines.{apart_text, body_text, numbered_text, IsPushed, IsPushedTwice, IsToldApartFrom, IsToldFrom};
 
 use crate::before::{Before, kept_before, lent};
@@ -14,17 +14,19 @@ use crate::doing::{Doing, push_action};
 use crate::found_out::{added_count, found_out};
 use crate::outcomes::{push_outcomes, push_seen};
 use sap_calc::Config;
-use sap_lines::PFault;
+use sap_called::Names;
+use sap_lines::{Form, PFault};
 use sap_runs::PStep;
 use sap_tell::{ThreadPaths, push_actor};
 use sap_terms::{FactList, Mem, Signature};
 use sap_text::Text;
 use std::alloc::Global;
 
-/// How far a run is told: where its threads stand, how many lines it has, and how many facts there ever were.
+/// How far a run is told: where its threads stand, which names were drawn, how many lines it has, and how many facts there ever were.
 #[derive(Drop)]
 pub struct Along {
     pub paths: ThreadPaths,
+    pub names: Names,
     pub lines: u64,
     pub facts: u64,
 }
@@ -55,17 +57,18 @@ fn do_line(alloc: Global, config: &mut Config, facts: u64, step: &PStep) -> Resu
 // What is done, and what comes of it, where so many entries were before.
 fn push_body(
     text: &mut Text,
+    names: &Names,
     config: &Config,
     entries: u64,
     label: &FactList,
     doing: &Doing,
 ) -> Result<(), Mem>
     ensures { OnOk result (text.new
-        ≡ text.old ++ body_text label.now entries (slice_get (terms_of config.now.known) entries) doing.now) }
+        ≡ text.old ++ body_text names.now label.now entries (slice_get (terms_of config.now.known) entries) doing.now) }
 {
-    push_action(text, label, doing)?;
-    let first = push_seen(text, label, config, entries)?;
-    push_outcomes(text, first, doing)
+    push_action(text, names, label, doing)?;
+    let first = push_seen(text, names, label, config, entries)?;
+    push_outcomes(text, names, first, doing)
 }
 
 // The number of a line, and who acts.
@@ -76,6 +79,20 @@ fn push_start(text: &mut Text, paths: &ThreadPaths, number: u64, step: &PStep) -
     text.push_bytes(b". ")?;
     push_actor(text, paths, step)?;
     text.push_bytes(b": ")
+}
+
+// Draws the name that the line draws, if it draws one, where this stood at the head of its thread.
+fn note(alloc: Global, names: &mut Names, step: &PStep, head: Option<&Form>) -> Result<(), Mem>
+    ensures { OnOk result (names.new ≡ noted names.old step.now (form_of head.entry)) }
+{
+    match step {
+        PStep::New(_, n) => match head {
+            Some(Form::New(v)) => names.draw(alloc, *n, &v.name),
+            _ => Ok(()),
+        },
+        PStep::Name(n) => names.draw_own(alloc, *n),
+        _ => Ok(()),
+    }
 }
 
 // How many facts the line adds.
@@ -92,12 +109,14 @@ impl Along {
     /// Before the first line.
     pub fn start(alloc: Global) -> Result<Along, Mem>
         ensures paths { IfOk result (λ a. a.paths ≡ [] ∷ []) }
+        ensures names { IfOk result (λ a. a.names ≡ []) }
         ensures lines { IfOk result (λ a. a.lines ≡ 0) }
         ensures facts { IfOk result (λ a. a.facts ≡ 0) }
     {
         let paths = ThreadPaths::first(alloc)?;
         Ok(Along {
             paths,
+            names: Names::new(alloc),
             lines: 0,
             facts: 0,
         })
@@ -107,6 +126,7 @@ impl Along {
     fn go_on(&mut self, alloc: Global, step: &PStep, kept: &Before) -> Result<(), Mem>
         requires { self.old.lines < u64.MAX }
         ensures paths { OnOk result (self.new.paths ≡ paths_after self.old.paths step.now) }
+        ensures names { OnOk result (self.new.names ≡ self.old.names) }
         ensures lines { OnOk result (self.new.lines ≡ self.old.lines + 1) }
         ensures facts { OnOk result (self.new.facts ≡ kept.now.facts + added_by step.now (form_at kept.now.head)) }
     {
@@ -127,16 +147,17 @@ fn push_line(
     alloc: Global,
     sig: &Signature,
     config: &Config,
+    names: &Names,
     kept: &Before,
     step: &PStep,
     label: &FactList,
     text: &mut Text,
 ) -> Result<(), Mem>
     requires { config.now.sig ≡ sig.now }
-    ensures { OnOk result (IsPushed kept.now config.now step.now label.now text.old text.new) }
+    ensures { OnOk result (IsPushed names.now kept.now config.now step.now label.now text.old text.new) }
 {
     let doing = found_out(alloc, sig, config, kept, step)?;
-    push_body(text, config, kept.entries, label, &doing)
+    push_body(text, names, config, kept.entries, label, &doing)
 }
 
 // Tells a line that was done, and goes on.
@@ -154,8 +175,9 @@ fn tell(
     requires lines { at.old.lines < u64.MAX }
     ensures { OnOk result (IsToldFrom kept.now config.now step.now label.now at.old at.new text.old text.new) }
 {
+    note(alloc, &mut at.names, step, lent(&kept.head))?;
     push_start(text, &at.paths, at.lines + 1, step)?;
-    push_line(alloc, sig, config, kept, step, label, text)?;
+    push_line(alloc, sig, config, &at.names, kept, step, label, text)?;
     text.push_byte(b'\n')?;
     at.go_on(alloc, step, kept)
 }
@@ -187,16 +209,17 @@ pub fn tell_line(
 }
 
 // What is done, and what comes of it beside what is shown and known.
-fn push_apart(text: &mut Text, label: &FactList, doing: &Doing) -> Result<(), Mem>
-    ensures { OnOk result (text.new ≡ text.old ++ apart_text label.now doing.now) }
+fn push_apart(text: &mut Text, names: &Names, label: &FactList, doing: &Doing) -> Result<(), Mem>
+    ensures { OnOk result (text.new ≡ text.old ++ apart_text names.now label.now doing.now) }
 {
-    push_action(text, label, doing)?;
-    push_outcomes(text, true, doing)
+    push_action(text, names, label, doing)?;
+    push_outcomes(text, names, true, doing)
 }
 
 // What is done and what comes of it, and apart from that what is done.
 fn push_both(
     text: &mut Text,
+    names: &Names,
     apart: &mut Text,
     config: &Config,
     entries: u64,
@@ -204,11 +227,11 @@ fn push_both(
     doing: &Doing,
 ) -> Result<(), Mem>
     ensures text { OnOk result (text.new
-        ≡ text.old ++ body_text label.now entries (slice_get (terms_of config.now.known) entries) doing.now) }
-    ensures apart { OnOk result (apart.new ≡ apart.old ++ apart_text label.now doing.now) }
+        ≡ text.old ++ body_text names.now label.now entries (slice_get (terms_of config.now.known) entries) doing.now) }
+    ensures apart { OnOk result (apart.new ≡ apart.old ++ apart_text names.now label.now doing.now) }
 {
-    push_body(text, config, entries, label, doing)?;
-    push_apart(apart, label, doing)
+    push_body(text, names, config, entries, label, doing)?;
+    push_apart(apart, names, label, doing)
 }
 
 // What the line did and what comes of it, and apart from that what it did.
@@ -216,6 +239,7 @@ fn push_twice(
     alloc: Global,
     sig: &Signature,
     config: &Config,
+    names: &Names,
     kept: &Before,
     step: &PStep,
     label: &FactList,
@@ -223,10 +247,10 @@ fn push_twice(
     apart: &mut Text,
 ) -> Result<(), Mem>
     requires { config.now.sig ≡ sig.now }
-    ensures { OnOk result (IsPushedTwice kept.now config.now step.now label.now text.old text.new apart.old apart.new) }
+    ensures { OnOk result (IsPushedTwice names.now kept.now config.now step.now label.now text.old text.new apart.old apart.new) }
 {
     let doing = found_out(alloc, sig, config, kept, step)?;
-    push_both(text, apart, config, kept.entries, label, &doing)
+    push_both(text, names, apart, config, kept.entries, label, &doing)
 }
 
 // Tells a line that was done, and apart from it what it does, and goes on.
@@ -245,8 +269,11 @@ fn tell_apart(
     requires lines { at.old.lines < u64.MAX }
     ensures { OnOk result (IsToldApartFrom kept.now config.now step.now label.now at.old at.new text.old text.new apart.old apart.new) }
 {
+    note(alloc, &mut at.names, step, lent(&kept.head))?;
     push_start(text, &at.paths, at.lines + 1, step)?;
-    push_twice(alloc, sig, config, kept, step, label, text, apart)?;
+    push_twice(
+        alloc, sig, config, &at.names, kept, step, label, text, apart,
+    )?;
     at.go_on(alloc, step, kept)
 }
 

@@ -1,6 +1,7 @@
 //! Runs that are told.
 ghost use Rattle.std.specs.Prelude.{◌≡◌, ◌+◌, ◌<◌, ◌∷◌, ◌++◌, [], ℕ, Err, IfOk, OnOk, length};
 ghost use Rattle.sap_calc.specs.Running.{configuration, IsDenied, IsDeniedAt};
+ghost use Rattle.sap_called.specs.NameLaws.{NamesAreToldApart};
 ghost use Rattle.sap_deduce.specs.Entries.{terms_of};
 ghost use Rattle.sap_lines.specs.Answers.{MatchesExactly};
 ghost use Rattle.sap_lines.specs.declared.at.At.TheVariants.{Step as StepOf};
@@ -16,6 +17,7 @@ ghost use Rattle.sap_teller.specs.code.Runs.{IsNextTold};
 
 use crate::telling::{Along, tell_line};
 use sap_calc::Config;
+use sap_called::{Names, names_are_told_apart};
 use sap_lines::{At, at_line, limit_excludes, runs_match_exactly};
 use sap_process::Process;
 use sap_runs::{PStep, PSteps};
@@ -29,6 +31,13 @@ use std::alloc::Global;
 pub struct ToldRun {
     pub text: Text,
     pub trace: Trace,
+}
+
+/// What is told of a run, with what it shows, and the names that it draws.
+#[derive(Drop)]
+pub struct WholeRun {
+    pub told: ToldRun,
+    pub names: Names,
 }
 
 // Puts a label last, unless it is empty.
@@ -75,19 +84,21 @@ pub fn started(alloc: Global, sig: &Signature, p: &Process) -> Result<Box<Config
     Ok(Box::new(alloc, Config::start(alloc, sig, p)?)?)
 }
 
-/// What is told of a run of a process, each line done once, and what it shows. `Step` names the first illegal line. Its time goes with
+/// What is told of a run of a process, each line done once, what it shows, and the names that it draws. `Step` names the first illegal line. Its time goes with
 /// the process's heads, the lines and the text, not with those of what was known and stored before. It recurses as deep as the process
 /// and the terms of process and run.
-pub fn tell_run(alloc: Global, sig: &Signature, p: &Process, run: &PSteps) -> Result<ToldRun, At>
+pub fn tell_run(alloc: Global, sig: &Signature, p: &Process, run: &PSteps) -> Result<WholeRun, At>
     requires builtins { HoldsBuiltins sig.now }
     requires ready { IsReady sig.now (proc p.now) }
-    ensures told { IfOk result (λ t. IsToldAs sig.now (proc p.now) run.now t.trace t.text) }
+    ensures told { IfOk result (λ t. IsToldAs sig.now (proc p.now) run.now t.told.trace t.names t.told.text) }
+    ensures apart { NamesAreToldApart }
     ensures refused { (n : ℕ) (fault : Fault) → result ≡ Err (StepOf n fault)
         → IsFirstRefusedOfProcess sig.now (proc p.now) run.now n fault }
 {
     limit_excludes();
     runs_match_exactly();
     legal_runs_are_told();
+    names_are_told_apart();
     let mut config = started(alloc, sig, p)?;
     let mut at = Along::start(alloc)?;
     let mut told = ToldRun {
@@ -97,5 +108,8 @@ pub fn tell_run(alloc: Global, sig: &Signature, p: &Process, run: &PSteps) -> Re
     for k in 0..run.len() {
         tell_next(alloc, sig, &mut config, &mut at, run.at(k), &mut told)?;
     }
-    Ok(told)
+    Ok(WholeRun {
+        told,
+        names: at.names,
+    })
 }

@@ -5,6 +5,7 @@ use Rattle.std.specs.Global.{Box}
 use Rattle.std.specs.List.{range_with_len}
 use Rattle.sap_calc.specs.Running.{Running, configuration, WouldFind, FindsNothing}
 use Rattle.sap_calc.specs.ThreadHeads.{IsNobody, HasHead}
+use Rattle.sap_called.specs.Names.{Draw, adversary_word, draw, with_draw}
 use Rattle.sap_deduce.specs.Entries.{terms_of}
 use Rattle.sap_facts.specs.Cited.{cited_at}
 use Rattle.sap_lines.specs.Answers.{MatchesExactly}
@@ -98,11 +99,11 @@ pub record IsKept (r : Running) (facts : ℕ) (cited : List Fact) (stored : Opti
   pub same_stored : b.stored ≡ stored
   pub same_cited : b.cited ≡ cited
 
--- where the line leads from the one to the other, this is what it does
+-- where the line leads from the one to the other, this is what it does, whichever names were drawn
 abbrev pub Does : Running → Running → PStep → Doing → Type 0
 Does r z step x =
-    (inner : List InnerAction) (label : List Fact) → IsProcessLine r.sig HasFewNodes (configuration r) (terms_of r.known) step inner label (configuration z) (terms_of z.known)
-    → IsDoing r.sig (configuration r) (terms_of r.known) step inner label (terms_of z.known) (action_of label x) (outcomes_of x)
+    (ds : List Draw) (inner : List InnerAction) (label : List Fact) → IsProcessLine r.sig HasFewNodes (configuration r) (terms_of r.known) step inner label (configuration z) (terms_of z.known)
+    → IsDoing r.sig ds (configuration r) (terms_of r.known) step inner label (terms_of z.known) (action_of ds label x) (outcomes_of ds x)
 
 -- the same from wherever this was kept, and what is matched is matched exactly
 abbrev pub IsFoundOut : Before → Running → PStep → Doing → Type 0
@@ -208,3 +209,9 @@ count_added _ = 0
 abbrev pub added_by : PStep → Form → ℕ
 added_by (line.Embedded t ks b) f = count_added f
 added_by _ f = 0
+
+-- the names that were drawn behind a line with this head
+abbrev pub noted : List Draw → PStep → Form → List Draw
+noted ds (line.New t n) (form.New v) = with_draw ds (draw n v.name)
+noted ds (line.Name n) f = with_draw ds (draw n adversary_word)
+noted ds _ f = ds

@@ -1,6 +1,7 @@
 -- A told line, part by part.
 use Rattle.std.specs.Prelude.{◌≡◌, ℕ, codes, decimal, true, List, ◌++◌, Option, slice_get}
 use Rattle.sap_calc.specs.Running.{Running, configuration, IsDone}
+use Rattle.sap_called.specs.Names.{Draw}
 use Rattle.sap_deduce.specs.Entries.{terms_of}
 use Rattle.sap_lines.specs.Answers.{MatchesExactly}
 use Rattle.sap_runs.specs.declared.process_step.PStep.{PStep}
@@ -19,14 +20,14 @@ abbrev pub numbered_text : ℕ → List ℕ → List ℕ
 numbered_text number actor = decimal number ++ (codes ". " ++ (actor ++ codes ": "))
 
 -- what is done and what comes of it
-abbrev pub body_text : List Fact → ℕ → Option Tree → Doing → List ℕ
-body_text label k o x = action_of label x ++ outcomes_from true (shown_texts label k o ++ outcomes_of x)
+abbrev pub body_text : List Draw → List Fact → ℕ → Option Tree → Doing → List ℕ
+body_text ds label k o x = action_of ds label x ++ outcomes_from true (shown_texts ds label k o ++ outcomes_of ds x)
 
 -- what the line did is put last, with what comes of it
-pub record IsPushed (kept : Before) (z : Running) (step : PStep) (label : List Fact) (before after : List ℕ) : Type 0 where
+pub record IsPushed (ds : List Draw) (kept : Before) (z : Running) (step : PStep) (label : List Fact) (before after : List ℕ) : Type 0 where
   pub doing : Doing
   pub does : IsFoundOut kept z step doing
-  pub text : after ≡ before ++ body_text label kept.entries (slice_get (terms_of z.known) kept.entries) doing
+  pub text : after ≡ before ++ body_text ds label kept.entries (slice_get (terms_of z.known) kept.entries) doing
 
 -- from wherever this was kept and the line was done, it is told
 abbrev pub IsToldFrom : Before → Running → PStep → List Fact → Along → Along → List ℕ → List ℕ → Type 0
@@ -34,15 +35,15 @@ IsToldFrom kept z step label a b before after =
     (r : Running) → MatchesExactly r.sig (configuration r) (terms_of r.known) → IsBefore r step kept → IsDone r z step label → IsToldOn r z a b before after step label
 
 -- what is done, with what comes of it beside what is shown and known
-abbrev pub apart_text : List Fact → Doing → List ℕ
-apart_text label x = action_of label x ++ outcomes_from true (outcomes_of x)
+abbrev pub apart_text : List Draw → List Fact → Doing → List ℕ
+apart_text ds label x = action_of ds label x ++ outcomes_from true (outcomes_of ds x)
 
 -- the same, and apart from it what the line did
-pub record IsPushedTwice (kept : Before) (z : Running) (step : PStep) (label : List Fact) (before after apart_before apart_after : List ℕ) : Type 0 where
+pub record IsPushedTwice (ds : List Draw) (kept : Before) (z : Running) (step : PStep) (label : List Fact) (before after apart_before apart_after : List ℕ) : Type 0 where
   pub doing : Doing
   pub does : IsFoundOut kept z step doing
-  pub text : after ≡ before ++ body_text label kept.entries (slice_get (terms_of z.known) kept.entries) doing
-  pub apart : apart_after ≡ apart_before ++ apart_text label doing
+  pub text : after ≡ before ++ body_text ds label kept.entries (slice_get (terms_of z.known) kept.entries) doing
+  pub apart : apart_after ≡ apart_before ++ apart_text ds label doing
 
 -- from wherever this was kept and the line was done, it is told, and told apart
 abbrev pub IsToldApartFrom : Before → Running → PStep → List Fact → Along → Along → List ℕ → List ℕ → List ℕ → List ℕ → Type 0

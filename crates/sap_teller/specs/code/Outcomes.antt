@@ -1,5 +1,6 @@
 -- What comes of a line, written piece by piece.
 use Rattle.std.specs.Prelude.{ℕ, Bool, false, codes, List, [], ◌∷◌, ◌++◌, if◌then◌else◌, map, Option, Some, None}
+use Rattle.sap_called.specs.Names.{Draw}
 use Rattle.sap_terms.specs.Tree.{Tree}
 use Rattle.sap_terms.specs.declared.fact.Fact.{Fact}
 use Rattle.sap_tell.specs.ToldText.{shows_text, knows_text}
@@ -19,10 +20,10 @@ still_first first [] = first
 still_first first (o ∷ os) = false
 
 -- the entry, if there is one
-abbrev pub known_text : ℕ → Option Tree → List (List ℕ)
-known_text k None = []
-known_text k (Some x) = knows_text k x ∷ []
+abbrev pub known_text : List Draw → ℕ → Option Tree → List (List ℕ)
+known_text ds k None = []
+known_text ds k (Some x) = knows_text ds k x ∷ []
 
 -- what is shown, and the entry
-abbrev pub shown_texts : List Fact → ℕ → Option Tree → List (List ℕ)
-shown_texts label k o = map shows_text label ++ known_text k o
+abbrev pub shown_texts : List Draw → List Fact → ℕ → Option Tree → List (List ℕ)
+shown_texts ds label k o = map (shows_text ds) label ++ known_text ds k o

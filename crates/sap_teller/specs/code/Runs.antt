@@ -23,7 +23,7 @@ pub record IsNextTold (r z : Running) (a b : Along) (before after : ToldRun) (st
 -- so far the lines are a run that is told
 pub record IsToldSoFar (g : Sig) (p : Proc) (lines : List PStep) (z : Running) (a : Along) (t : ToldRun) : Type 0 where
   pub marks : List Mark
-  pub run : IsToldRun g p lines (configuration z) (terms_of z.known) t.trace marks t.text
+  pub run : IsToldRun g p lines (configuration z) (terms_of z.known) t.trace marks a.names t.text
   pub sig : z.sig ≡ g
   pub count : a.lines ≡ length lines
   pub paths : a.paths ≡ thread_paths lines

@@ -13,7 +13,7 @@ use Rattle.sap_chart.proofs.run.chart_run.Goals as goal
 
 pub loop-k-init : goal.loop-k-init
 loop-k-init c =
-    none_drawn c.legal_runs_are_told.ensures.legal c.args.sig.now (proc c.args.p.now) c.in_ok-config.config.value c.in_ok-at.at c.new-drawing.result c.in_ok-config.ensures.sig c.in_ok-config.ensures.known c.in_ok-config.ensures.configuration c.in_ok-at.ensures.paths c.in_ok-at.ensures.lines c.in_ok-at.ensures.facts c.new-drawing.ensures.lifelines c.new-drawing.ensures.body c.new-drawing.ensures.rows c.new-drawing.ensures.trace
+    none_drawn c.legal_runs_are_told.ensures.legal c.args.sig.now (proc c.args.p.now) c.in_ok-config.config.value c.in_ok-at.at c.new-drawing.result c.in_ok-config.ensures.sig c.in_ok-config.ensures.known c.in_ok-config.ensures.configuration c.in_ok-at.ensures.paths c.in_ok-at.ensures.lines c.in_ok-at.ensures.facts c.in_ok-at.ensures.names c.new-drawing.ensures.lifelines c.new-drawing.ensures.body c.new-drawing.ensures.rows c.new-drawing.ensures.trace
 
 pub draw_next-requires-clause-exact : goal.draw_next-requires-clause-exact
 draw_next-requires-clause-exact c =

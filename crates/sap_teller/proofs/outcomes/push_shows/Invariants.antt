@@ -4,4 +4,4 @@ use Rattle.sap_teller.specs.code.Outcomes.{outcomes_from}
 use Rattle.sap_teller.proofs.outcomes.push_shows.Given as goal
 
 abbrev pub invariant-loop-k : goal.invariant-loop-k
-invariant-loop-k l = l.text ≡ l.initial.text ++ outcomes_from true (map shows_text (take l.k l.label))
+invariant-loop-k l = l.text ≡ l.initial.text ++ outcomes_from true (map (shows_text l.names) (take l.k l.label))

@@ -13,7 +13,7 @@ use Rattle.sap_teller.proofs.told_run.tell_run.Goals as goal
 
 pub loop-k-init : goal.loop-k-init
 loop-k-init c =
-    none_told c.legal_runs_are_told.ensures.legal c.args.sig.now (proc c.args.p.now) c.in_ok-config.config.value c.in_ok-at.at (record { text = c.new.result; trace = c.new-2.result }) c.in_ok-config.ensures.sig c.in_ok-config.ensures.known c.in_ok-config.ensures.configuration c.in_ok-at.ensures.paths c.in_ok-at.ensures.lines c.in_ok-at.ensures.facts c.new.ensures c.new-2.ensures
+    none_told c.legal_runs_are_told.ensures.legal c.args.sig.now (proc c.args.p.now) c.in_ok-config.config.value c.in_ok-at.at (record { text = c.new.result; trace = c.new-2.result }) c.in_ok-config.ensures.sig c.in_ok-config.ensures.known c.in_ok-config.ensures.configuration c.in_ok-at.ensures.paths c.in_ok-at.ensures.lines c.in_ok-at.ensures.facts c.in_ok-at.ensures.names c.new.ensures c.new-2.ensures
 
 pub tell_next-requires-clause-exact : goal.tell_next-requires-clause-exact
 tell_next-requires-clause-exact c =

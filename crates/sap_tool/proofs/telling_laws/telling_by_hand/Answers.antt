@@ -1,4 +1,5 @@
 use Rattle.std.proofs.Common.{◌≡◌, ℕ, codes, List, [], ◌∷◌, ◌++◌, length, None, refl, sym, ap, subst, ◌∙◌}
+use Rattle.std.proofs.lemmas.List.{append-nil}
 use Rattle.std.specs.Fmt.{digits}
 use Rattle.sap_back.specs.Converted.{IsConvertedToProcess}
 use Rattle.sap_formula.specs.Form.{LemmaForm, RestrictionForm}
@@ -24,6 +25,7 @@ returns-clause-empty c = λ f restrictions lemmas. record {
   of_run = own [];
   written = record {
     trace = [];
+    draws = [];
     told = [];
     run = record { config = initial f.process; entries = []; marks = []; run = starts };
     verdicts = [];
@@ -40,6 +42,7 @@ returns-clause-one_line c = λ f verdicts ends judged. record {
   of_run = own (line.Nil 0 ∷ []);
   written = record {
     trace = [];
+    draws = [];
     told = codes "1. thread 0 at the root: 0 -- thread 0 ends\n";
     run = rw ends (record {
       config = becomes (initial nil) 0 None;
@@ -50,7 +53,7 @@ returns-clause-one_line c = λ f verdicts ends judged. record {
     });
     verdicts = verdicts;
     judged = judged;
-    layout = refl;
+    layout = ap (λ (v : List ℕ). codes "1. thread 0 at the root: 0 -- thread 0 ends\n" ++ 10 ∷ v) (sym (append-nil verdicts));
   };
 }
 
@@ -75,7 +78,7 @@ never_bare [] verdicts e = cc
 never_bare (x ∷ told) verdicts e = cc
 
 pub returns-clause-not_bare : goal.returns-clause-not_bare
-returns-clause-not_bare c = λ f r w. never_bare w.written.told w.written.verdicts w.written.layout
+returns-clause-not_bare c = λ f r w. never_bare w.written.told _ w.written.layout
 
 by_conversion : (f : FileContent) (rule_lines : List RStep) (lines : List PStep) → AreLinesOf f (run.Rules rule_lines) lines → IsConvertedToProcess f.signature f.process rule_lines lines
 by_conversion f rule_lines _ (converted lines c) = c

@@ -1,0 +1,4 @@
+mod Apart
+mod Kept
+mod Lists
+mod Spelled
