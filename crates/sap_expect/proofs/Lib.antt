@@ -2,6 +2,7 @@ pub mod Arities
 pub mod Takes
 pub mod Lighter
 pub mod Turns
+pub mod OnTop
 pub mod OnRows
 pub mod Quiet
 pub mod Ends
@@ -41,13 +42,14 @@ pub mod KindNames
 pub mod KindRows
 pub mod KindReached
 pub mod KindTaken
+pub mod WalkedUp
 pub mod KindCover
 pub mod KindsByHand
 pub mod KindsOfFiles
 pub mod KindTexts
-pub mod OpenMarksWalk
 pub mod KindsAtLimits
 pub mod Taken
 pub mod Alone
 pub mod TooDeepWords
+pub mod SeenTokens
 pub mod DeepByHand

@@ -85,10 +85,10 @@ none_of_three P a b d AProcess p = isnt_so b p
 none_of_three P a b d AFormula p = isnt_so d p
 
 -- what is told of the token of this number
-pub told_at : {E : Type 0} (z : List ℕ) (ts : List Token) (k : ℕ) (d : Token) (n : ℕ) (vs : List Open) (r : Result (Option Nested) E) → k < length ts → StandsBehind (words_of z ts) k n vs
-    → IsFirstWrong IsFileWords (words_of z ts) k
-    → IfOk r (λ o. MatchOption o ((c : Nested) → CanGoBy (all_but c) n vs (word_of z (get_or ts k d)) → ⊥) (λ c. CanGoBy (all_but c) n vs (word_of z (get_or ts k d))))
+pub told_at : {E : Type 0} (z : List ℕ) (ts : List Token) (k : ℕ) (d : Token) (n : ℕ) (vs : List Open) (w : Word) → w ≡ word_of z (get_or ts k d) → (r : Result (Option Nested) E) → k < length ts
+    → StandsBehind (words_of z ts) k n vs → IsFirstWrong IsFileWords (words_of z ts) k
+    → IfOk r (λ o. MatchOption o ((c : Nested) → CanGoBy (all_but c) n vs w → ⊥) (λ c. CanGoBy (all_but c) n vs w))
     → IfOk r (λ o. MatchOption o ((c : Nested) → IsTooDeep c (take (k + 1) (words_of z ts)) → ⊥) (λ c. IsTooDeep c (take (k + 1) (words_of z ts))))
-told_at z ts k d n vs (Ok None) lt s f h = λ c g. h c (deep_back c z ts k d n vs lt s g)
-told_at z ts k d n vs (Ok (Some c)) lt s f h = deep_is c z ts k d n vs lt s f h
-told_at z ts k d n vs (Err m) lt s f h = tt
+told_at z ts k d n vs w e (Ok None) lt s f h = λ c g. h c (subst (λ (x : Word). CanGoBy (all_but c) n vs x) (sym e) (deep_back c z ts k d n vs lt s g))
+told_at z ts k d n vs w e (Ok (Some c)) lt s f h = deep_is c z ts k d n vs lt s f (subst (λ (x : Word). CanGoBy (all_but c) n vs x) e h)
+told_at z ts k d n vs w e (Err m) lt s f h = tt

@@ -4,6 +4,7 @@ pub mod FileWords
 pub mod Letters
 pub mod Levels
 pub mod Expected
+pub mod WrongWord
 pub mod LevelExamples
 pub mod ItemExamples
 pub mod Kinds

@@ -1,6 +1,6 @@
 -- Words of small files, to try by hand which bracket or quotation mark is open behind them.
 use Rattle.std.specs.Prelude.{◌≡◌, ℕ, codes, List, [], ◌∷◌, Some, None}
-use Rattle.sap_grammar.specs.Words.{Word, mark, name, quoted}
+use Rattle.sap_grammar.specs.Words.{Word, mark, name}
 use Rattle.sap_expect.specs.ItemExamples.{headed, running}
 use Rattle.sap_expect.specs.OpenMarks.{innermost_open}
 

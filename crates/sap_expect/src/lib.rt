@@ -15,11 +15,13 @@ mod may_stand;
 mod nested;
 mod open_marks;
 mod part_laws;
+mod seen;
 mod table;
 mod walk;
 mod wanted;
+mod way;
+mod wrong;
 
-pub use deep::expected_at;
 pub use expected::Expected;
 pub use expected_laws::{
     expected_texts_by_hand, levels_that_count, one_expected, too_deep_by_hand,
@@ -31,9 +33,9 @@ pub use kind_text::{push_expected, wanted_texts_by_hand};
 pub use laws::{items_by_hand, table_goes_on};
 pub use level_laws::levels_by_hand;
 pub use nested::Nested;
-pub use open_marks::{innermost_open, open_marks_by_hand};
+pub use open_marks::open_marks_by_hand;
 pub use part_laws::{
     facts_that_follow_are_spelled, formulas_that_follow_are_spelled, names_without_letters,
     processes_that_follow_are_spelled, terms_that_follow_are_spelled,
 };
-pub use walk::first_wrong;
+pub use wrong::{Wrong, wrong_word};

@@ -1,48 +1,24 @@
 //! What may stand behind words of a file.
-ghost use Rattle.std.specs.Prelude.{◌≡◌, ◌≤◌, List, [], ◌∷◌, ◌++◌, IfOk, OnOk, MatchOption, length, map, take};
+ghost use Rattle.std.specs.Prelude.{◌≡◌, List, [], ◌∷◌, ◌++◌, IfOk, OnOk, map};
 ghost use Rattle.std.specs.Bool.{Decides};
-ghost use Rattle.sap_text.specs.Spans.{AreTokens};
-ghost use Rattle.sap_grammar.specs.Words.{words_of};
 ghost use Rattle.sap_expect.specs.Kinds.{kind_of, kinds as all_kinds, name_kinds, sign_kinds, wide_kinds, word_kinds};
-ghost use Rattle.sap_expect.specs.FileWords.{IsFileWords};
-ghost use Rattle.sap_expect.specs.FirstWrong.{GoOn};
-ghost use Rattle.sap_expect.specs.code.Going.{AreRowsNamed, Behind, CanGo, Each, IsRowNamed, KindRow as Row, StandsBehind, kind_row_of, kind_rows, many_of, wide_words, witness_of, witnesses_of};
+ghost use Rattle.sap_expect.specs.code.Going.{AreRowsNamed, Behind, CanGo, Each, IsRowNamed, KindRow as Row, kind_row_of, kind_rows, many_of, wide_words, witness_of, witnesses_of};
 ghost use Rattle.sap_expect.specs.code.WantedView.{stacked};
 
 use crate::kind::WordKind;
 use crate::kinds;
 use crate::kinds::{KindRow, Witness};
-use crate::walk::Walk;
-use crate::wanted::{Limit, Part, Wanted};
+use crate::seen::look;
+use crate::walk::{Attempt, Walk};
 use sap_terms::Mem;
-use sap_text::{Token, spans_are_tokens};
 use std::alloc::Global;
 
-pub(crate) fn copy_of(alloc: Global, walk: &Walk) -> Result<Walk, Mem>
-    ensures { IfOk result (λ w. (w.levels ≡ walk.now.levels) × (w.stack.items ≡ walk.now.stack.items)) }
-{
-    let mut stack = Vec::new(alloc);
-    stack.extend_from_slice(walk.stack.as_slice())?;
-    Ok(Walk {
-        levels: walk.levels,
-        stack,
-    })
-}
-
 // Whether the word may stand where the walk is.
-#[tactic(auto, using(crate::proofs::KindRows::taken_can))]
 fn goes_on(alloc: Global, walk: &Walk, word: Witness) -> Result<bool, Mem>
     ensures { IfOk result (λ b. Decides b (CanGo walk.now.levels (stacked walk.now.stack.items) (witness_of word.entry))) }
 {
-    let bytes = word.1.as_bytes();
-    let token = Token {
-        kind: word.0,
-        from: 0,
-        to: bytes.len() as u64,
-        line: 1,
-    };
-    let mut on = copy_of(alloc, walk)?;
-    let taken = on.take(bytes, token, None)?;
+    let mut attempt = Attempt::new(alloc);
+    let taken = attempt.goes(walk, look(word.0, word.1.as_bytes()), None)?;
     Ok(taken)
 }
 
@@ -175,30 +151,4 @@ pub(crate) fn named_kinds(alloc: Global, walk: &Walk) -> Result<Vec<WordKind>, M
     push_named(alloc, &mut list, walk, word_rows())?;
     push_named(alloc, &mut list, walk, name_rows())?;
     Ok(list)
-}
-
-// A walk behind so many of the tokens, if they go on to a file's.
-pub(crate) fn walk_over(
-    alloc: Global,
-    bytes: &[u8],
-    tokens: &[Token],
-    count: usize,
-) -> Result<Option<Walk>, Mem>
-    requires tokens { AreTokens bytes.now tokens.now }
-    requires inside { count ≤ length tokens.now }
-    ensures { IfOk result (λ o. MatchOption o (GoOn IsFileWords (take count (words_of bytes.now tokens.now)) → ⊥)
-        (λ walk. StandsBehind (words_of bytes.now tokens.now) count walk.levels (stacked walk.stack.items))) }
-{
-    spans_are_tokens();
-    let mut walk = Walk {
-        levels: 0,
-        stack: Vec::new(alloc),
-    };
-    walk.stack.push((Wanted::A(Part::File, Limit::Same), 0))?;
-    for k in 0..count {
-        if !walk.take(bytes, tokens[k], None)? {
-            return Ok(None);
-        }
-    }
-    Ok(Some(walk))
 }

@@ -1,28 +1,27 @@
 //! Which bracket or quotation mark is open behind words.
-ghost use Rattle.std.specs.Prelude.{◌≡◌, [], ◌∷◌, ◌++◌, true, OnOk, IfOk, codes, if◌then◌else◌};
-ghost use Rattle.sap_grammar.specs.Words.{mark, name, quoted, word_of, words_of};
+ghost use Rattle.std.specs.Prelude.{◌≡◌, [], ◌∷◌, ◌++◌, true, OnOk, codes, if◌then◌else◌};
+ghost use Rattle.sap_grammar.specs.Words.{mark, name, quoted};
 ghost use Rattle.sap_expect.specs.Kinds.{is_one_of};
-ghost use Rattle.sap_expect.specs.OpenMarks.{behind_word, closing_marks, innermost_open, is_quotation, last_of, number_of, open_behind, opening_marks, without_last};
+ghost use Rattle.sap_expect.specs.OpenMarks.{behind_word, closing_marks, is_quotation, last_of, number_of, opening_marks, without_last};
+ghost use Rattle.sap_expect.specs.code.SeenWords.{seen};
 ghost use Rattle.sap_expect.specs.OpenExamples.{IsOpenAt, IsOpenInFormula, NoneIsOpen, NoneIsOpenInFormula, both_closed, facts_behind, nested, one_closed, shown, shown_closed};
 
-use sap_grammar::is_mark;
+use crate::seen::{Seen, is_this_mark};
 use sap_terms::Mem;
-use sap_text::Token;
-use std::alloc::Global;
 
 /// How many words stand before one that is open, and whether it is a quotation mark.
-type OpenMark = (usize, bool);
+pub(crate) type OpenMark = (usize, bool);
 
-fn opens(bytes: &[u8], token: Token) -> bool
-    ensures { result ≡ is_one_of opening_marks (word_of bytes.now token) }
+fn opens(word: Seen<'_>) -> bool
+    ensures { result ≡ is_one_of opening_marks (seen word.entry) }
 {
-    is_mark(bytes, token, "(") || is_mark(bytes, token, "[") || is_mark(bytes, token, "--[")
+    is_this_mark(word, "(") || is_this_mark(word, "[") || is_this_mark(word, "--[")
 }
 
-fn closes(bytes: &[u8], token: Token) -> bool
-    ensures { result ≡ is_one_of closing_marks (word_of bytes.now token) }
+fn closes(word: Seen<'_>) -> bool
+    ensures { result ≡ is_one_of closing_marks (seen word.entry) }
 {
-    is_mark(bytes, token, ")") || is_mark(bytes, token, "]") || is_mark(bytes, token, "]->")
+    is_this_mark(word, ")") || is_this_mark(word, "]") || is_this_mark(word, "]->")
 }
 
 // Whether the innermost is a quotation mark.
@@ -55,47 +54,28 @@ fn pass_quotation(marks: &mut Vec<OpenMark>, k: usize) -> Result<(), Mem>
     Ok(())
 }
 
-// Past the token, before which so many stand.
-fn pass(marks: &mut Vec<OpenMark>, bytes: &[u8], token: Token, k: usize) -> Result<(), Mem>
-    ensures { OnOk result (marks.new.items ≡ behind_word k (word_of bytes.now token) marks.old.items) }
+/// Past the word, before which so many stand. A `<` isn't looked at, which may be a tuple's or a sign between times.
+pub(crate) fn pass(marks: &mut Vec<OpenMark>, word: Seen<'_>, k: usize) -> Result<(), Mem>
+    ensures { OnOk result (marks.new.items ≡ behind_word k (seen word.entry) marks.old.items) }
 {
-    if opens(bytes, token) {
+    if opens(word) {
         marks.push((k, false))?;
-    } else if closes(bytes, token) {
+    } else if closes(word) {
         close(marks);
-    } else if is_mark(bytes, token, "\"") {
+    } else if is_this_mark(word, "\"") {
         pass_quotation(marks, k)?;
     }
     Ok(())
 }
 
-// What is open behind the tokens.
-fn open_behind(alloc: Global, bytes: &[u8], tokens: &[Token]) -> Result<Vec<OpenMark>, Mem>
-    ensures { IfOk result (λ v. v.items ≡ open_behind 0 [] (words_of bytes.now tokens.now)) }
-{
-    let mut marks = Vec::new(alloc);
-    for k in 0..tokens.len() {
-        pass(&mut marks, bytes, tokens[k], k)?;
-    }
-    Ok(marks)
-}
-
-fn last_number(marks: &[OpenMark]) -> Option<usize>
+/// How many words stand before the innermost that is open, if one is.
+pub(crate) fn last_number(marks: &[OpenMark]) -> Option<usize>
     ensures { result ≡ number_of (last_of marks.now) }
 {
     match marks.last() {
         Some(innermost) => Some(innermost.0),
         None => None,
     }
-}
-
-/// How many tokens stand before the innermost bracket or quotation mark that is open behind these, if one is. A `<` isn't looked at,
-/// which may be a tuple's or a sign between times. Want of memory is the only error.
-pub fn innermost_open(alloc: Global, bytes: &[u8], tokens: &[Token]) -> Result<Option<usize>, Mem>
-    ensures { IfOk result (λ o. o ≡ innermost_open (words_of bytes.now tokens.now)) }
-{
-    let marks = open_behind(alloc, bytes, tokens)?;
-    Ok(last_number(marks.as_slice()))
 }
 
 /// A law: which word of small files is the innermost that is open, each kind of bracket and the quotation mark, or that none is: behind

@@ -1,91 +1,29 @@
-//! The first word of a file that is wrong by the table of its words.
-ghost use Rattle.std.specs.Prelude.{◌≡◌, ◌+◌, [], ◌∷◌, ◌++◌, true, false, IfOk, OnOk, MatchOption, map};
-ghost use Rattle.std.specs.Option.{option_copied};
-ghost use Rattle.sap_text.specs.Spans.{AreTokens};
-ghost use Rattle.sap_text.specs.declared.token.Token.{Token};
-ghost use Rattle.sap_grammar.specs.Words.{is_lower, is_upper, word_of, words_of};
+//! A walk over the words of a file by the table of its words.
+ghost use Rattle.std.specs.Prelude.{◌≡◌, ◌≤◌, ◌+◌, ℕ, List, [], ◌∷◌, ◌++◌, IfOk, None, OnOk, length, map};
+ghost use Rattle.std.specs.Option.{option_to_list};
+ghost use Rattle.sap_expect.specs.declared.wanted.Wanted as code;
 ghost use Rattle.sap_expect.specs.declared.wanted.Limit.{Limit};
-ghost use Rattle.sap_expect.specs.FileTable.{part as part_of, all_opened, changed, holds, is_arity, is_such, is_this, is_wanted, levels_in, limit as limit_of, may_hold, opened, otherwise, passes, row_among, rows};
-ghost use Rattle.sap_expect.specs.FileWords.{IsFileWords};
-ghost use Rattle.sap_expect.specs.FirstWrong.{IsFirstWrong};
+ghost use Rattle.sap_expect.specs.FileTable.{part as part_of, all_opened, changed, file, holds, is_this, levels_in, limit as limit_of, may_hold, opened, otherwise, passes, row_among, rows};
+ghost use Rattle.sap_expect.specs.code.Attempts.{on_top};
+ghost use Rattle.sap_expect.specs.code.SeenWords.{seen};
 ghost use Rattle.sap_expect.specs.code.Steps.{Stepped, Taken};
 ghost use Rattle.sap_expect.specs.code.WantedView.{all_wanted, counting, open_of, row_of, stacked, turn_there, wanted as view};
 
 use crate::nested::Nested;
+use crate::seen::{Seen, is_wanted};
 use crate::table;
 use crate::table::{Row, Turn};
 use crate::wanted::{Change, Limit, Part, Test, Wanted};
 use sap_draft::FILE_LIMITS;
-use sap_grammar::{is_lower, is_mark, is_upper, name_at, names, number_at, quoted_at, starts_zero};
-use sap_terms::{MOST_ARITY, MOST_PROCESS_LEVELS, Mem};
-use sap_text::{Token, spans_are_tokens};
+use sap_terms::{MOST_PROCESS_LEVELS, Mem};
 use std::alloc::Global;
 
-// Whether these are the digits of an arity.
-fn is_arity(digits: &[u8]) -> bool
-    ensures { result ≡ is_arity digits.now }
-{
-    let mut arity: u64 = 0;
-    for digit in digits {
-        arity = arity * 10 + (*digit).saturating_sub(b'0') as u64;
-        if arity > MOST_ARITY {
-            return false;
-        }
-    }
-    true
-}
-
-fn is_lower_name(name: Option<&[u8]>) -> bool
-    ensures { result ≡ is_such is_lower (option_copied name.entry) }
-{
-    match name {
-        Some(name) => is_lower(name),
-        None => false,
-    }
-}
-
-fn is_upper_name(name: Option<&[u8]>) -> bool
-    ensures { result ≡ is_such is_upper (option_copied name.entry) }
-{
-    match name {
-        Some(name) => is_upper(name),
-        None => false,
-    }
-}
-
-fn is_arity_at(number: Option<&[u8]>) -> bool
-    ensures { result ≡ is_such is_arity (option_copied number.entry) }
-{
-    match number {
-        Some(digits) => is_arity(digits),
-        None => false,
-    }
-}
-
-// Whether the token alone is what is wanted.
-fn is_wanted(bytes: &[u8], token: Token, wanted: Wanted) -> bool
-    ensures { result ≡ is_wanted (view wanted) (word_of bytes.now token) }
-{
-    let tokens = [token];
-    match wanted {
-        Wanted::Mark(mark) => is_mark(bytes, token, mark),
-        Wanted::Named(name) => names(bytes, &tokens, name),
-        Wanted::Name => name_at(bytes, &tokens).is_some(),
-        Wanted::Lower => is_lower_name(name_at(bytes, &tokens)),
-        Wanted::Upper => is_upper_name(name_at(bytes, &tokens)),
-        Wanted::Quoted => quoted_at(bytes, &tokens).is_some(),
-        Wanted::Zero => starts_zero(bytes, &tokens),
-        Wanted::Arity => is_arity_at(number_at(bytes, &tokens)),
-        Wanted::A(_, _) | Wanted::Level(_) => false,
-    }
-}
-
-// What is wanted behind the token, by the first of the rows that it begins, and where.
-fn row_among(bytes: &[u8], token: Token, rows: &'static [Row]) -> Option<Turn>
-    ensures { turn_there result ≡ row_among (map row_of rows.now) (word_of bytes.now token) }
+// What is wanted behind the word, by the first of the rows that it begins, and where.
+fn row_among(word: Seen<'_>, rows: &'static [Row]) -> Option<Turn>
+    ensures { turn_there result ≡ row_among (map row_of rows.now) (seen word.entry) }
 {
     for row in rows {
-        if is_wanted(bytes, token, row.0) {
+        if is_wanted(word, row.0) {
             return Some((row.1, row.2));
         }
     }
@@ -320,26 +258,64 @@ pub(crate) struct Walk {
     pub(crate) stack: Vec<Open>,
 }
 
-impl Walk {
-    // A step with a part that is wanted: whether the token is taken or wrong, or nothing yet, where the part is something else. The levels
+// A word that is tried where a walk is, which stays as it is: the levels of what ended last, how much of what was wanted is left, and what
+// came on top of that.
+#[derive(Drop)]
+pub(crate) struct Attempt {
+    pub(crate) levels: u64,
+    pub(crate) left: usize,
+    pub(crate) more: Vec<Open>,
+}
+
+impl Attempt {
+    // One for some word, which isn't tried yet.
+    pub(crate) fn new(alloc: Global) -> Attempt {
+        Attempt {
+            levels: 0,
+            left: 0,
+            more: Vec::new(alloc),
+        }
+    }
+
+    // Takes off what is on top.
+    #[tactic(auto, using(crate::proofs::OnTop::none_on_top))]
+    fn pop(&mut self, stack: &[Open]) -> Option<Open>
+        requires { self.old.left ≤ length stack.now }
+        ensures top { on_top stack.now self.old.left self.old.more.items
+            ≡ on_top stack.now self.new.left self.new.more.items ++ option_to_list result }
+        ensures none { result ≡ None → on_top stack.now self.old.left self.old.more.items ≡ [] }
+        ensures left { self.new.left ≤ length stack.now }
+        ensures levels { self.new.levels ≡ self.old.levels }
+    {
+        if let Some(open) = self.more.pop() {
+            return Some(open);
+        }
+        if self.left == 0 {
+            return None;
+        }
+        self.left -= 1;
+        Some(stack[self.left])
+    }
+
+    // A step with a part that is wanted: whether the word is taken or wrong, or nothing yet, where the part is something else. The levels
     // of what is spared don't count.
     fn step_part(
         &mut self,
-        bytes: &[u8],
-        token: Token,
+        word: Seen<'_>,
         spared: Option<Nested>,
         part: Part,
         most: u64,
     ) -> Result<Option<bool>, Mem>
-        ensures { IfOk result (λ o. (l : Limit) → Stepped (counting spared) self.old.levels
-            ((part_of part l, most) ∷ stacked self.old.stack.items) (word_of bytes.now token)
-            self.new.levels (stacked self.new.stack.items) o) }
+        ensures step { IfOk result (λ o. (l : Limit) (under : List (code.Wanted × ℕ)) → Stepped (counting spared) self.old.levels
+            ((part_of part l, most) ∷ stacked (under ++ self.old.more.items)) (seen word.entry)
+            self.new.levels (stacked (under ++ self.new.more.items)) o) }
+        ensures left { self.new.left ≡ self.old.left }
     {
-        if let Some((test, rest)) = row_among(bytes, token, rows(part)) {
+        if let Some((test, rest)) = row_among(word, rows(part)) {
             if !passes(spared, part, test, most, self.levels) {
                 return Ok(Some(false));
             }
-            push_all(&mut self.stack, rest, most, self.levels)?;
+            push_all(&mut self.more, rest, most, self.levels)?;
             return Ok(Some(true));
         }
         match otherwise(part) {
@@ -347,7 +323,7 @@ impl Walk {
                 if !passes(spared, part, test, most, self.levels) {
                     return Ok(Some(false));
                 }
-                push_all(&mut self.stack, other, most, self.levels)?;
+                push_all(&mut self.more, other, most, self.levels)?;
                 Ok(None)
             }
             None => Ok(Some(false)),
@@ -357,66 +333,68 @@ impl Walk {
     // A step with what is wanted on top.
     fn step(
         &mut self,
-        bytes: &[u8],
-        token: Token,
+        stack: &[Open],
+        word: Seen<'_>,
         spared: Option<Nested>,
     ) -> Result<Option<bool>, Mem>
-        ensures { IfOk result (λ o. Stepped (counting spared) self.old.levels (stacked self.old.stack.items)
-            (word_of bytes.now token) self.new.levels (stacked self.new.stack.items) o) }
+        requires { self.old.left ≤ length stack.now }
+        ensures step { IfOk result (λ o. Stepped (counting spared) self.old.levels (stacked (on_top stack.now self.old.left self.old.more.items))
+            (seen word.entry) self.new.levels (stacked (on_top stack.now self.new.left self.new.more.items)) o) }
+        ensures left { self.new.left ≤ length stack.now }
     {
-        match self.stack.pop() {
+        match self.pop(stack) {
             None => Ok(Some(false)),
             Some((wanted, number)) => match wanted {
-                Wanted::A(part, _) => self.step_part(bytes, token, spared, part, number),
+                Wanted::A(part, _) => self.step_part(word, spared, part, number),
                 Wanted::Level(change) => {
                     self.levels = changed(change, self.levels, number)?;
                     Ok(None)
                 }
-                _ => Ok(Some(is_wanted(bytes, token, wanted))),
+                _ => Ok(Some(is_wanted(word, wanted))),
             },
         }
     }
 
-    // Takes the token, where it may stand next, if the levels of what is spared don't count; what is wanted behind it is open then.
-    pub(crate) fn take(
+    // Whether the word may stand next where the walk is, if the levels of what is spared don't count; what is wanted behind it is open then.
+    pub(crate) fn goes(
         &mut self,
-        bytes: &[u8],
-        token: Token,
+        walk: &Walk,
+        word: Seen<'_>,
         spared: Option<Nested>,
     ) -> Result<bool, Mem>
-        ensures { IfOk result (λ b. Taken (counting spared) self.old.levels (stacked self.old.stack.items)
-            (word_of bytes.now token) self.new.levels (stacked self.new.stack.items) b) }
+        ensures { IfOk result (λ b. Taken (counting spared) walk.now.levels (stacked walk.now.stack.items) (seen word.entry)
+            self.new.levels (stacked (on_top walk.now.stack.items self.new.left self.new.more.items)) b) }
     {
+        self.levels = walk.levels;
+        self.left = walk.stack.len();
+        self.more.clear();
         loop {
-            if let Some(taken) = self.step(bytes, token, spared)? {
+            if let Some(taken) = self.step(walk.stack.as_slice(), word, spared)? {
                 return Ok(taken);
             }
         }
     }
 }
 
-/// The number of the first word with which the words of the tokens begin no file's words any more, or how many there are, where only the
-/// end is missing; `None` where they are a file's words. It goes over the tokens once, and takes no more of the stack the deeper they are
-/// nested. Want of memory is the only error.
-pub fn first_wrong(alloc: Global, bytes: &[u8], tokens: &[Token]) -> Result<Option<usize>, Mem>
-    requires { AreTokens bytes.now tokens.now }
-    ensures { IfOk result (λ o. MatchOption o (IsFileWords (words_of bytes.now tokens.now))
-        (λ k. IsFirstWrong IsFileWords (words_of bytes.now tokens.now) k)) }
-{
-    spans_are_tokens();
-    let mut walk = Walk {
-        levels: 0,
-        stack: Vec::new(alloc),
-    };
-    walk.stack.push((Wanted::A(Part::File, Limit::Same), 0))?;
-    for k in 0..tokens.len() {
-        if !walk.take(bytes, tokens[k], None)? {
-            return Ok(Some(k));
-        }
+impl Walk {
+    // At the first word of a file.
+    pub(crate) fn new(alloc: Global) -> Result<Walk, Mem>
+        ensures { IfOk result (λ w. (w.levels ≡ 0) × (stacked w.stack.items ≡ file)) }
+    {
+        let mut stack = Vec::new(alloc);
+        stack.push((Wanted::A(Part::File, Limit::Same), 0))?;
+        Ok(Walk { levels: 0, stack })
     }
-    if walk.stack.is_empty() {
-        Ok(None)
-    } else {
-        Ok(Some(tokens.len()))
+
+    // Goes on to where the word is taken that was tried.
+    pub(crate) fn follow(&mut self, attempt: &Attempt) -> Result<(), Mem>
+        ensures levels { OnOk result (self.new.levels ≡ attempt.now.levels) }
+        ensures stack { OnOk result (self.new.stack.items
+            ≡ on_top self.old.stack.items attempt.now.left attempt.now.more.items) }
+    {
+        self.stack.truncate(attempt.left);
+        self.stack.extend_from_slice(attempt.more.as_slice())?;
+        self.levels = attempt.levels;
+        Ok(())
     }
 }

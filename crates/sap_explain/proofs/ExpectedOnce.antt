@@ -1,11 +1,12 @@
 -- One text is told of what is expected; pieces of it, put together.
 use Rattle.std.proofs.Common.{◌≡◌, ℕ, true, false, List, [], ◌∷◌, ◌++◌, append_assoc, take, Option, Some, None, Result, Ok, Err, refl, sym, ap, ◌∙◌, subst}
-use Rattle.std.proofs.lemmas.List.{append-nil, take-map}
-use Rattle.std.specs.Prelude.{codes, OnOk}
+use Rattle.std.proofs.lemmas.List.{append-nil}
+use Rattle.std.specs.Prelude.{codes, IfOk, OnOk}
 use Rattle.sap_text.specs.declared.token.Token.{Token}
-use Rattle.sap_grammar.specs.Words.{Word, word_of, words_of}
+use Rattle.sap_grammar.specs.Words.{Word, words_of}
 use Rattle.sap_read.specs.Files.{AreTokens}
 use Rattle.sap_read.specs.declared.fault.ReadFault.{ReadFault}
+use Rattle.sap_read.specs.declared.fault.ReadFault.TheVariants.{Syntax}
 use Rattle.sap_expect.specs.Expected.{Expected, IsExpected, fewer_levels, one_of}
 use Rattle.sap_expect.specs.ExpectedText.{expected_text}
 use Rattle.sap_expect.specs.FileWords.{IsFileWords}
@@ -14,21 +15,28 @@ use Rattle.sap_expect.specs.Kinds.{Kind}
 use Rattle.sap_expect.specs.declared.nested.Nested.{Nested}
 use Rattle.sap_expect.specs.Letters.{AreLettered}
 use Rattle.sap_expect.specs.OpenMarks.{innermost_open}
+use Rattle.sap_expect.specs.WrongWord.{IsFound}
+use Rattle.sap_expect.specs.declared.wrong.Wrong.{Wrong}
 use Rattle.sap_stretches.specs.Positions.{IsPosition}
 use Rattle.sap_stretches.specs.Stretches.{stretch_at}
 use Rattle.sap_stretches.specs.declared.stretch.Stretch.{Stretch}
 use Rattle.sap_stretches.specs.declared.position.Position.{Position}
-use Rattle.sap_explain.specs.Cures.{IsAdvice}
+use Rattle.sap_explain.specs.Cures.{IsAdvice, is_syntax}
 use Rattle.sap_explain.specs.BytesIn.{bytes_in}
 use Rattle.sap_explain.specs.Explained.{IsExplanation, IsPlaceTold}
 use Rattle.sap_explain.specs.ExpectedTold.{IsExpectedText, IsExpectedTold, IsOpenText, at_word, is_of_words, no_such, no_word, none_open, of_kinds, of_levels, one_open, position_text}
 use Rattle.sap_explain.proofs.Cures.{one_advice}
+use Rattle.sap_explain.specs.OtherTold.{IsOtherPlaceOf, IsOtherTold}
+use Rattle.sap_explain.proofs.OtherTold.{same_other}
 use Rattle.sap_explain.proofs.Telling.{OnePlace, OnePosition, OneText, same_told}
 
 -- pieces of a text, put last one by one
 pub three_put : (old a b new x y w : List ℕ) → a ≡ old ++ x → b ≡ a ++ y → new ≡ b ++ w → new ≡ old ++ (x ++ (y ++ w))
 three_put old a b new x y w e f g =
     g ∙ ap (λ (t : List ℕ). t ++ w) (f ∙ ap (λ (t : List ℕ). t ++ y) e) ∙ ap (λ (t : List ℕ). t ++ w) (append_assoc old x y) ∙ append_assoc old (x ++ y) w ∙ ap (λ (t : List ℕ). old ++ t) (append_assoc x y w)
+
+pub four_put : (old a b c new x y w v : List ℕ) → a ≡ old ++ x → b ≡ a ++ y → c ≡ b ++ w → new ≡ c ++ v → new ≡ old ++ (x ++ (y ++ (w ++ v)))
+four_put old a b c new x y w v e f g h = three_put old a b new x y (w ++ v) e f (h ∙ ap (λ (t : List ℕ). t ++ v) g ∙ append_assoc b w v)
 
 -- that something is open
 pub open_is : {A E : Type 0} (z : List ℕ) (ts : List Token) (k : ℕ) (s : Stretch) (p : Position) (old a b new : List ℕ) (r : Result A E) → s ≡ stretch_at ts k → IsPosition z s.from p
@@ -40,27 +48,44 @@ open_is z ts k s p old a b new (Ok v) is at e f g =
 open_is z ts k s p old a b new (Err m) is at e f g = tt
 
 -- which is open behind so many of the tokens
-behind : (z : List ℕ) (ts : List Token) (k : ℕ) (o : Option ℕ) → o ≡ innermost_open (words_of z (take k ts)) → o ≡ innermost_open (take k (words_of z ts))
-behind z ts k o e = e ∙ ap innermost_open (sym (take-map (word_of z) k ts))
+pub open_there : {A E : Type 0} (z : List ℕ) (ts : List Token) (k : ℕ) (o : Option ℕ) (old new : List ℕ) (r : Result A E) → o ≡ innermost_open (take k (words_of z ts))
+    → OnOk r ((t : List ℕ) × (new ≡ old ++ t) × IsOpenText z ts o t) → OnOk r ((t : List ℕ) × (new ≡ old ++ t) × IsOpenText z ts (innermost_open (take k (words_of z ts))) t)
+open_there z ts k o old new r e h = subst (λ (o : Option ℕ). OnOk r ((t : List ℕ) × (new ≡ old ++ t) × IsOpenText z ts o t)) e h
 
-pub innermost_is : {A E : Type 0} (z : List ℕ) (ts : List Token) (k j : ℕ) (old new : List ℕ) (r : Result A E) → Some j ≡ innermost_open (words_of z (take k ts))
-    → OnOk r ((t : List ℕ) × (new ≡ old ++ t) × IsOpenText z ts (Some j) t) → OnOk r ((t : List ℕ) × (new ≡ old ++ t) × IsOpenText z ts (innermost_open (take k (words_of z ts))) t)
-innermost_is z ts k j old new r e h =
-    subst (λ (o : Option ℕ). OnOk r ((t : List ℕ) × (new ≡ old ++ t) × IsOpenText z ts o t)) (behind z ts k (Some j) e) h
+pub some_is : {A E : Type 0} (z : List ℕ) (ts : List Token) (o : Option ℕ) (k : ℕ) (old new : List ℕ) (r : Result A E) → o ≡ Some k
+    → OnOk r ((t : List ℕ) × (new ≡ old ++ t) × IsOpenText z ts (Some k) t) → OnOk r ((t : List ℕ) × (new ≡ old ++ t) × IsOpenText z ts o t)
+some_is z ts o k old new r e h = subst (λ (o : Option ℕ). OnOk r ((t : List ℕ) × (new ≡ old ++ t) × IsOpenText z ts o t)) (sym e) h
 
-pub none_innermost : (z : List ℕ) (ts : List Token) (k : ℕ) (old : List ℕ) → None ≡ innermost_open (words_of z (take k ts))
-    → (t : List ℕ) × (old ≡ old ++ t) × IsOpenText z ts (innermost_open (take k (words_of z ts))) t
-none_innermost z ts k old e = ([], sym (append-nil old), subst (λ (o : Option ℕ). IsOpenText z ts o []) (behind z ts k None e) none_open)
+-- where nothing is, nothing is told
+pub none_is : (z : List ℕ) (ts : List Token) (o : Option ℕ) (old : List ℕ) → o ≡ None → (t : List ℕ) × (old ≡ old ++ t) × IsOpenText z ts o t
+none_is z ts o old e = ([], sym (append-nil old), subst (λ (p : Option ℕ). IsOpenText z ts p []) (sym e) none_open)
 
--- a place, what is expected there, and what to change
-pub explanation_is : {A E : Type 0} (z : List ℕ) (e : ReadFault) (old a b new : List ℕ) (r : Result A E) → (x : List ℕ) × (a ≡ old ++ x) × IsPlaceTold z e x → (y : List ℕ) × (b ≡ a ++ y) × IsExpectedTold z e y
-    → OnOk r ((t : List ℕ) × (new ≡ b ++ (t ++ (10 ∷ []))) × IsAdvice z e t) → OnOk r ((t : List ℕ) × (new ≡ old ++ t) × IsExplanation z e t)
-explanation_is z e old a b new (Ok v) x y f = (
-  x.0 ++ (y.0 ++ (f.0 ++ (10 ∷ []))),
-  three_put old a b new x.0 y.0 (f.0 ++ (10 ∷ [])) x.1 y.1 f.1,
-  record { place = x.0; is_place = x.2; wanted = y.0; is_wanted = y.2; change = f.0; is_change = f.2; text = refl },
+-- a piece that is no item is a word with which no file goes on
+pub piece_of_words : (e : ReadFault) (line : ℕ) → e ≡ Syntax line → is_of_words e ≡ true
+piece_of_words e line is = subst (λ (f : ReadFault). is_of_words f ≡ true) (sym is) refl
+
+pub syntax_of_words : (e : ReadFault) → is_syntax e ≡ true → is_of_words e ≡ true
+syntax_of_words (Syntax line) is = refl
+syntax_of_words _ is = absurd (cc (is))
+
+-- what is found is found whatever the cause is
+pub found_is : {E : Type 0} (P : Type 0) (ws : List Word) (r : Result (Option Wrong) E) → IfOk r (λ o. IsFound ws o) → IfOk r (λ o. P → IsFound ws o)
+found_is P ws (Ok o) h = λ p. h
+found_is P ws (Err m) h = tt
+
+pub not_of_words : {A : Type 0} → true ≡ false → A
+not_of_words e = absurd (cc (e))
+
+-- a place, the other one, what is expected there, and what to change
+pub explanation_is : {A E : Type 0} (z : List ℕ) (e : ReadFault) (old a b c new : List ℕ) (r : Result A E) → (x : List ℕ) × (a ≡ old ++ x) × IsPlaceTold z e x
+    → (w : List ℕ) × (b ≡ a ++ w) × IsOtherTold z e w → (y : List ℕ) × (c ≡ b ++ y) × IsExpectedTold z e y
+    → OnOk r ((t : List ℕ) × (new ≡ c ++ (t ++ (10 ∷ []))) × IsAdvice z e t) → OnOk r ((t : List ℕ) × (new ≡ old ++ t) × IsExplanation z e t)
+explanation_is z e old a b c new (Ok v) x w y f = (
+  x.0 ++ (w.0 ++ (y.0 ++ (f.0 ++ (10 ∷ [])))),
+  four_put old a b c new x.0 w.0 y.0 (f.0 ++ (10 ∷ [])) x.1 w.1 y.1 f.1,
+  record { place = x.0; is_place = x.2; other = w.0; is_other = w.2; wanted = y.0; is_wanted = y.2; change = f.0; is_change = f.2; text = refl },
 )
-explanation_is z e old a b new (Err m) x y f = tt
+explanation_is z e old a b c new (Err m) x w y f = tt
 
 -- nothing more
 pub nothing_is : {P : List ℕ → Type 0} (old : List ℕ) → P [] → (t : List ℕ) × (old ≡ old ++ t) × P t
@@ -145,9 +170,10 @@ module _
     one_told e t u (no_such g) (no_word never) = refl
     one_told e t u (no_such g) (no_such h) = refl
 
-    pub one_explanation_is : OnePlace → OneText → (e : ReadFault) (t u : List ℕ) → IsExplanation z e t → IsExplanation z e u → t ≡ u
-    one_explanation_is one_place one_text e t u x y =
+    pub one_explanation_is : OnePlace → ((s t : Stretch) (e : ReadFault) → IsOtherPlaceOf z e s → IsOtherPlaceOf z e t → s ≡ t) → OneText → (e : ReadFault) (t u : List ℕ) → IsExplanation z e t → IsExplanation z e u → t ≡ u
+    one_explanation_is one_place one_other one_text e t u x y =
         let places : x.place ≡ y.place = same_told one_place one_position one_text z e x.place y.place x.is_place y.is_place in
+        let others : x.other ≡ y.other = same_other z e (λ a b. one_other a b e) (one_text z) x.other y.other x.is_other y.is_other in
         let wanted : x.wanted ≡ y.wanted = one_told e x.wanted y.wanted x.is_wanted y.is_wanted in
         let changes : x.change ≡ y.change = one_advice z e (only z) x.change y.change x.is_change y.is_change in
-        x.text ∙ (λ i. places i ++ (wanted i ++ (changes i ++ (10 ∷ [])))) ∙ sym y.text
+        x.text ∙ (λ i. places i ++ (others i ++ (wanted i ++ (changes i ++ (10 ∷ []))))) ∙ sym y.text

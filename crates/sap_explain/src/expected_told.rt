@@ -1,17 +1,17 @@
 //! What is told of a word with which no file goes on.
-ghost use Rattle.std.specs.Prelude.{◌≡◌, ◌≤◌, ◌++◌, ℕ, true, List, Some, length, take, OnOk};
+ghost use Rattle.std.specs.Prelude.{◌≡◌, ◌++◌, ℕ, true, List, Some, length, IfOk, OnOk};
 ghost use Rattle.std.specs.List.{All};
 ghost use Rattle.sap_text.specs.Spans.{IsWithin};
 ghost use Rattle.sap_grammar.specs.Words.{words_of};
 ghost use Rattle.sap_read.specs.FileTokens.{HasTokens};
 ghost use Rattle.sap_read.specs.declared.fault.ReadFault.{ReadFault as Fault};
 ghost use Rattle.sap_expect.specs.Expected.{expected_of};
-ghost use Rattle.sap_expect.specs.OpenMarks.{innermost_open};
+ghost use Rattle.sap_expect.specs.WrongWord.{IsFound, IsWrongWord};
 ghost use Rattle.sap_stretches.specs.Stretches.{IsInBytes};
 ghost use Rattle.sap_explain.specs.BytesIn.{bytes_in};
 ghost use Rattle.sap_explain.specs.ExpectedTold.{IsExpectedText, IsExpectedTold, IsOpenText, is_of_words, position_text};
 
-use sap_expect::{Expected, expected_at, first_wrong, innermost_open, push_expected};
+use sap_expect::{Expected, Wrong, push_expected, wrong_word};
 use sap_read::ReadFault;
 use sap_stretches::{Position, Stretch, position_of, stretch_at};
 use sap_terms::Mem;
@@ -59,76 +59,93 @@ fn push_open(text: &mut Text, bytes: &[u8], tokens: &[Token], k: usize) -> Resul
     push_position(text, position)
 }
 
-// Puts last what is open behind so many of the tokens.
+// Puts last that the token of this number is open, if there is one.
 fn push_innermost(
-    alloc: Global,
     text: &mut Text,
     bytes: &[u8],
     tokens: &[Token],
-    k: usize,
+    innermost: Option<usize>,
 ) -> Result<(), Mem>
-    requires within { All (IsWithin (length bytes.now)) tokens.now }
-    requires inside { k ≤ length tokens.now }
-    ensures { OnOk result ((t : List ℕ) × (text.new ≡ text.old ++ t)
-        × IsOpenText bytes.now tokens.now (innermost_open (take k (words_of bytes.now tokens.now))) t) }
+    requires { All (IsWithin (length bytes.now)) tokens.now }
+    ensures { OnOk result ((t : List ℕ) × (text.new ≡ text.old ++ t) × IsOpenText bytes.now tokens.now innermost t) }
 {
-    match innermost_open(alloc, bytes, &tokens[..k])? {
+    match innermost {
         Some(number) => push_open(text, bytes, tokens, number),
         None => Ok(()),
     }
 }
 
-// Puts last what is expected at the token of this number.
+// Puts last what is expected at the wrong word, and what is open there.
 fn push_expected_text(
-    alloc: Global,
     text: &mut Text,
     bytes: &[u8],
     tokens: &[Token],
-    k: usize,
-    expected: &Expected,
+    wrong: &Wrong,
 ) -> Result<(), Mem>
     requires within { All (IsWithin (length bytes.now)) tokens.now }
-    requires inside { k ≤ length tokens.now }
+    requires wrong { IsWrongWord (words_of bytes.now tokens.now) wrong.now }
     ensures { OnOk result ((t : List ℕ) × (text.new ≡ text.old ++ t)
-        × IsExpectedText bytes.now tokens.now k (expected_of expected.now) t) }
+        × IsExpectedText bytes.now tokens.now wrong.now.number (expected_of wrong.now.expected) t) }
 {
-    push_expected(text, expected)?;
+    push_expected(text, &wrong.expected)?;
     text.push_bytes(b"\n")?;
-    match expected {
+    match &wrong.expected {
         Expected::FewerLevels(_) => Ok(()),
-        Expected::OneOf(_) => push_innermost(alloc, text, bytes, tokens, k),
+        Expected::OneOf(_) => push_innermost(text, bytes, tokens, wrong.open),
     }
 }
 
 // What is told of these tokens at their first wrong word, if there is one.
-fn push_in_tokens(alloc: Global, text: &mut Text, bytes: &[u8], tokens: &[Token]) -> Result<(), Mem>
-    requires { HasTokens bytes.now tokens.now }
+fn push_in_tokens(
+    text: &mut Text,
+    bytes: &[u8],
+    tokens: &[Token],
+    wrong: &Option<Wrong>,
+) -> Result<(), Mem>
+    requires tokens { HasTokens bytes.now tokens.now }
+    requires wrong { IsFound (words_of bytes.now tokens.now) wrong.now }
     ensures { OnOk result ((t : List ℕ) × (text.new ≡ text.old ++ t) × ((e : Fault) → is_of_words e ≡ true → IsExpectedTold bytes.now e t)) }
 {
-    match first_wrong(alloc, bytes, tokens)? {
-        Some(k) => {
-            let expected = expected_at(alloc, bytes, tokens, k)?;
-            push_expected_text(alloc, text, bytes, tokens, k, &expected)
-        }
+    match wrong {
+        Some(wrong) => push_expected_text(text, bytes, tokens, wrong),
         None => Ok(()),
+    }
+}
+
+/// The first word with which no file goes on, where that is the cause; of other causes nothing is looked for. The tokens are those of the
+/// bytes. Want of memory is the only error.
+pub(crate) fn wrong_of(
+    alloc: Global,
+    bytes: &[u8],
+    tokens: &[Token],
+    fault: &ReadFault,
+) -> Result<Option<Wrong>, Mem>
+    requires { is_of_words fault.now ≡ true → HasTokens bytes.now tokens.now }
+    ensures { IfOk result (λ o. is_of_words fault.now ≡ true → IsFound (words_of bytes.now tokens.now) o) }
+{
+    if is_of_words(fault) {
+        wrong_word(alloc, bytes, tokens)
+    } else {
+        Ok(None)
     }
 }
 
 /// Puts last what is expected where the bytes are refused for a word with which no file goes on, or for a missing header: what may stand
 /// there, and which bracket or quotation mark is open, or the limit of levels that keeps the word; of other causes nothing. Want of memory
-/// is the only error. The tokens are those of the bytes.
+/// is the only error. The tokens are those of the bytes, and the word is what `wrong_of` has.
 pub(crate) fn push_expected_told(
-    alloc: Global,
     text: &mut Text,
     bytes: &[u8],
     tokens: &[Token],
     fault: &ReadFault,
+    wrong: &Option<Wrong>,
 ) -> Result<(), Mem>
-    requires { is_of_words fault.now ≡ true → HasTokens bytes.now tokens.now }
+    requires tokens { is_of_words fault.now ≡ true → HasTokens bytes.now tokens.now }
+    requires wrong { is_of_words fault.now ≡ true → IsFound (words_of bytes.now tokens.now) wrong.now }
     ensures { OnOk result ((t : List ℕ) × (text.new ≡ text.old ++ t) × IsExpectedTold bytes.now fault.now t) }
 {
     if is_of_words(fault) {
-        push_in_tokens(alloc, text, bytes, tokens)
+        push_in_tokens(text, bytes, tokens, wrong)
     } else {
         Ok(())
     }

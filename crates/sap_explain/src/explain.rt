@@ -8,11 +8,16 @@ ghost use Rattle.sap_read.specs.Files.{IsRead};
 ghost use Rattle.sap_read_places.specs.Reached.{IsReached};
 ghost use Rattle.sap_explain.specs.Told.{IsPlaceOf};
 ghost use Rattle.sap_stretches.specs.Stretches.{IsInBytes};
+ghost use Rattle.sap_grammar.specs.Words.{Word, words_of};
+ghost use Rattle.sap_expect.specs.WrongWord.{IsFound, IsWrongAt};
+ghost use Rattle.sap_read.specs.declared.fault.ReadFault.TheVariants.{Syntax};
 
 use crate::advice::advice;
 use crate::cure::cure_of;
-use crate::expected_told::push_expected_told;
+use crate::expected_told::{push_expected_told, wrong_of};
+use crate::other_told::push_other_told;
 use crate::told::place_of;
+use sap_expect::Wrong;
 use sap_read::ReadFault;
 use sap_read_places::{Reached, Told};
 use sap_stretches::{Stretch, position_of, push_place};
@@ -117,15 +122,27 @@ fn push_place_told(
     tokens: &[Token],
     reached: Reached<'_>,
     fault: &ReadFault,
+    wrong: Option<usize>,
 ) -> Result<(), Mem>
+    requires wrong { (line : ℕ) → fault.now ≡ Syntax line → IsWrongAt (words_of bytes.now tokens.now) wrong }
     requires refused { IsRead bytes.now (Err fault.now) }
     requires reached { IsReached bytes.now tokens.now fault.now reached }
     ensures { OnOk result ((t : List ℕ) × (text.new ≡ text.old ++ t)
         × IsPlaceTold bytes.now fault.now t) }
 {
-    match place_of(alloc, bytes, tokens, reached, fault)? {
+    match place_of(alloc, bytes, tokens, reached, fault, wrong)? {
         Some(told) => push_told(text, bytes, fault, &told),
         None => Ok(()),
+    }
+}
+
+// How many words stand before the first wrong one.
+fn number_of(wrong: &Option<Wrong>) -> Option<usize>
+    ensures { (ws : List Word) → IsFound ws wrong.now → IsWrongAt ws result }
+{
+    match wrong {
+        Some(wrong) => Some(wrong.number),
+        None => None,
     }
 }
 
@@ -139,25 +156,27 @@ fn push_sentence(text: &mut Text, sentence: &[u8]) -> Result<(), Mem>
 
 // Puts last what to change: what a row says that fits where the cause stands, or else the sentence of the cause.
 fn push_advice(
-    alloc: Global,
     text: &mut Text,
     bytes: &[u8],
     tokens: &[Token],
     fault: &ReadFault,
+    wrong: &Option<Wrong>,
 ) -> Result<(), Mem>
-    requires { is_syntax fault.now ≡ true → HasTokens bytes.now tokens.now }
+    requires tokens { is_syntax fault.now ≡ true → HasTokens bytes.now tokens.now }
+    requires wrong { is_syntax fault.now ≡ true → IsFound (words_of bytes.now tokens.now) wrong.now }
     ensures { OnOk result ((t : List ℕ) × (text.new ≡ text.old ++ (t ++ (10 ∷ []))) × IsAdvice bytes.now fault.now t) }
 {
-    match cure_of(alloc, bytes, tokens, fault)? {
+    match cure_of(bytes, tokens, fault, wrong) {
         Some(cure) => push_sentence(text, cure.as_bytes()),
         None => push_sentence(text, advice(fault)),
     }
 }
 
 /// Puts last what is told of bytes that are refused for this cause, behind the line that says so: where it stands, as `push_place`
-/// tells it, if it has a place, and where that is used, if it is in a `let`, and where that is, of eight uses at most; of a word with which
-/// no file goes on what is expected there; and one sentence of what to change, where a row of `sap_cures` fits at the place that of the
-/// first. What was read of the file is lent, as to `place_of`. Want of memory is the only error.
+/// tells it, if it has a place, and where that is used, if it is in a `let`, and where that is, of eight uses at most; behind `and` its
+/// other place, where it has two; of a word with which no file goes on what is expected there; and one sentence of what to change, where
+/// a row of `sap_cures` fits at the place that of the first. What was read of the file is lent, as to `place_of`. Want of memory is the
+/// only error.
 pub fn push_explanation(
     alloc: Global,
     text: &mut Text,
@@ -171,7 +190,17 @@ pub fn push_explanation(
     ensures { OnOk result ((t : List ℕ) × (text.new ≡ text.old ++ t)
         × IsExplanation bytes.now fault.now t) }
 {
-    push_place_told(alloc, text, bytes, tokens, reached, fault)?;
-    push_expected_told(alloc, text, bytes, tokens, fault)?;
-    push_advice(alloc, text, bytes, tokens, fault)
+    let wrong = wrong_of(alloc, bytes, tokens, fault)?;
+    push_place_told(
+        alloc,
+        text,
+        bytes,
+        tokens,
+        reached,
+        fault,
+        number_of(&wrong),
+    )?;
+    push_other_told(alloc, text, bytes, tokens, reached, fault)?;
+    push_expected_told(text, bytes, tokens, fault, &wrong)?;
+    push_advice(text, bytes, tokens, fault, &wrong)
 }

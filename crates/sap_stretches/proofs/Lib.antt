@@ -1,3 +1,4 @@
 pub mod LastToken
+pub mod Lines
 pub mod Positions
 pub mod PositionsByHand

@@ -1,5 +1,5 @@
 -- Which stretches of a file's bytes are told.
-use Rattle.std.specs.Prelude.{◌≤◌, ℕ, List, [], ◌∷◌, slice_get, Option, Some, None}
+use Rattle.std.specs.Prelude.{◌≤◌, ◌-◌, ℕ, List, [], ◌∷◌, slice_get, take, drop, Option, Some, None}
 use Rattle.sap_text.specs.declared.token.Token.{Token}
 use Rattle.sap_stretches.specs.declared.stretch.Stretch.{Stretch}
 
@@ -23,3 +23,7 @@ stretch_of ts None = record { from = end_of ts; to = end_of ts }
 
 abbrev pub stretch_at : List Token → ℕ → Stretch
 stretch_at ts k = stretch_of ts (slice_get ts k)
+
+-- the bytes of a stretch: those from its first up to the one before its end
+abbrev pub bytes_in : List ℕ → Stretch → List ℕ
+bytes_in z s = take (s.to - s.from) (drop s.from z)

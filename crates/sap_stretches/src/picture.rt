@@ -1,9 +1,11 @@
 //! What is shown of a place: its line and column, the line of the file, and carets below the word.
 ghost use Rattle.std.specs.Prelude.{◌≡◌, ◌≤◌, ◌++◌, ◌-◌, ℕ, List, [], ◌∷◌, codes, decimal, length, map, OnOk};
 ghost use Rattle.std.proofs.Math.ListN.{replicate};
-ghost use Rattle.sap_stretches.specs.Positions.{IsPlaceText, carets, picture, shown, shown_from, shown_to};
+ghost use Rattle.sap_stretches.specs.Lines.{IsLineOf};
+ghost use Rattle.sap_stretches.specs.Positions.{IsPlaceText, IsPosition, LineBegins, LineEnds, carets, picture, shown, shown_from, shown_to};
 
-use crate::position::{Position, line_around, position_of};
+use crate::line::{Line, line_of};
+use crate::position::Position;
 use crate::stretch::Stretch;
 use sap_terms::Mem;
 use sap_text::Text;
@@ -105,6 +107,46 @@ fn push_position(text: &mut Text, position: Position) -> Result<(), Mem>
     text.push_bytes(b"\n")
 }
 
+// The position of an offset whose line this is.
+fn position_in(bytes: &[u8], line: Line, at: u64) -> Position
+    requires line { IsLineOf bytes.now line }
+    requires at { line.at ≡ at }
+    ensures { IsPosition bytes.now at result }
+{
+    let _bytes = bytes.len();
+    Position {
+        line: line.number,
+        column: line.at - line.from + 1,
+    }
+}
+
+// The bytes of an offset's line.
+fn line_around(bytes: &[u8], line: Line, at: u64) -> Stretch
+    requires line { IsLineOf bytes.now line }
+    requires at { line.at ≡ at }
+    ensures begins { LineBegins bytes.now at result.from }
+    ensures ends { LineEnds bytes.now at result.to }
+{
+    Stretch {
+        from: line.from,
+        to: line.to,
+    }
+}
+
+/// The same as `push_place`, where the line of the stretch's first byte is known. It takes time in proportion to what is put there.
+pub fn push_place_in(text: &mut Text, bytes: &[u8], word: Stretch, line: Line) -> Result<(), Mem>
+    requires line { IsLineOf bytes.now line }
+    requires word { line.at ≡ word.from }
+    ensures { OnOk result ((t : List ℕ) × (text.new ≡ text.old ++ t)
+        × IsPlaceText bytes.now word t) }
+{
+    let position = position_in(bytes, line, word.from);
+    let whole = line_around(bytes, line, word.from);
+    let part = part_shown(whole, word.from);
+    push_position(text, position)?;
+    push_picture(text, bytes, word, part)
+}
+
 /// Puts last where this stretch of the file stands: `line L, column C`, the line of the file, with a blank for each byte that is
 /// no printable ASCII, and a line with a caret below each byte of the stretch that stands in that line, one at least. A line of
 /// more than 120 bytes is shown from 60 before the stretch's first byte to 60 from it on. Want of memory is the only error.
@@ -113,9 +155,5 @@ pub fn push_place(text: &mut Text, bytes: &[u8], word: Stretch) -> Result<(), Me
     ensures { OnOk result ((t : List ℕ) × (text.new ≡ text.old ++ t)
         × IsPlaceText bytes.now word t) }
 {
-    let position = position_of(bytes, word.from);
-    let line = line_around(bytes, word.from);
-    let part = part_shown(line, word.from);
-    push_position(text, position)?;
-    push_picture(text, bytes, word, part)
+    push_place_in(text, bytes, word, line_of(bytes, word.from))
 }

@@ -3,8 +3,6 @@ ghost use Rattle.std.specs.Prelude.{◌≡◌, ◌≤◌, length};
 ghost use Rattle.sap_text.specs.Tokens.{line_feeds};
 ghost use Rattle.sap_stretches.specs.Positions.{IsPosition, LineBegins, LineEnds};
 
-use crate::stretch::Stretch;
-
 /// A line and a column, in bytes, both counted from 1.
 #[derive(Clone, Copy)]
 pub struct Position {
@@ -13,7 +11,7 @@ pub struct Position {
 }
 
 // Where the line begins in which this offset stands.
-fn line_begin(bytes: &[u8], at: usize) -> usize
+pub(crate) fn line_begin(bytes: &[u8], at: usize) -> usize
     requires { at ≤ length bytes.now }
     ensures { LineBegins bytes.now at result }
 {
@@ -25,7 +23,7 @@ fn line_begin(bytes: &[u8], at: usize) -> usize
 }
 
 // Where that line ends: at its line feed, or at the end of the bytes.
-fn line_end(bytes: &[u8], at: usize) -> usize
+pub(crate) fn line_end(bytes: &[u8], at: usize) -> usize
     requires { at ≤ length bytes.now }
     ensures { LineEnds bytes.now at result }
 {
@@ -36,20 +34,8 @@ fn line_end(bytes: &[u8], at: usize) -> usize
     end
 }
 
-// The line in which this offset stands, without its line feed.
-pub(crate) fn line_around(bytes: &[u8], at: u64) -> Stretch
-    requires { at ≤ length bytes.now }
-    ensures begins { LineBegins bytes.now at result.from }
-    ensures ends { LineEnds bytes.now at result.to }
-{
-    Stretch {
-        from: line_begin(bytes, at as usize) as u64,
-        to: line_end(bytes, at as usize) as u64,
-    }
-}
-
 // How many line feeds there are.
-fn feeds_in(bytes: &[u8]) -> usize
+pub(crate) fn feeds_in(bytes: &[u8]) -> usize
     ensures counts { result ≡ line_feeds bytes.now }
     ensures few { result ≤ length bytes.now }
 {

@@ -1,6 +1,6 @@
 -- What stands among the tokens stands in the bytes.
 use Rattle.std.proofs.Common.{◌≡◌, ℕ, List, length, Option, None, Some, sym, subst}
-use Rattle.std.specs.Prelude.{Result, Ok, Err, IfOk}
+use Rattle.std.specs.Prelude.{Result, Ok, Err, IfOk, IfSome}
 use Rattle.sap_terms.specs.declared.mem.Mem.{Mem}
 use Rattle.sap_text.specs.declared.fault.Lex.{Lex}
 use Rattle.sap_text.specs.declared.token.Token.{Token}
@@ -32,7 +32,11 @@ stands_among z ts e (Ok o) other only starts once clash words are refused nowher
 stands_among z ts e (Err m) other only starts once clash words are refused nowhere h r = tt
 
 -- what isn't so of a piece isn't so of it by its line
-pub piece_nowhere : {E : Type 0} (z : List ℕ) (e : ReadFault) (line : ℕ) (r : Result (Option Stretch) E) → e ≡ Syntax line → IfOk r (λ o. o ≡ None → (line : ℕ) (s : Stretch) → IsWhere z (Syntax line) s → ⊥)
-    → IfOk r (λ o. o ≡ None → (s : Stretch) → IsWhere z e s → ⊥)
-piece_nowhere z e line (Ok o) is h = λ none. subst (λ (f : ReadFault). (s : Stretch) → IsWhere z f s → ⊥) (sym is) (h none line)
-piece_nowhere z e line (Err m) is h = tt
+pub piece_nowhere : (z : List ℕ) (e : ReadFault) (line : ℕ) (o : Option Stretch) → e ≡ Syntax line → (o ≡ None → (line : ℕ) (s : Stretch) → IsWhere z (Syntax line) s → ⊥)
+    → o ≡ None → (s : Stretch) → IsWhere z e s → ⊥
+piece_nowhere z e line o is h none = subst (λ (f : ReadFault). (s : Stretch) → IsWhere z f s → ⊥) (sym is) (h none line)
+
+-- nor is what is so
+pub piece_at : (z : List ℕ) (e : ReadFault) (line : ℕ) (o : Option Stretch) → e ≡ Syntax line → IfSome o (λ s. (line : ℕ) → IsWhere z (Syntax line) s) → IfSome o (λ s. IsWhere z e s)
+piece_at z e line None is h = tt
+piece_at z e line (Some s) is h = subst (λ (f : ReadFault). IsWhere z f s) (sym is) (h line)

@@ -8,6 +8,7 @@ ghost use Rattle.sap_read.specs.Files.{IsRead};
 ghost use Rattle.sap_terms.specs.Signature.{pairs_alone};
 ghost use Rattle.sap_grammar.specs.Signatures.{clash_from};
 ghost use Rattle.sap_expect.specs.FileWords.{IsFileWords};
+ghost use Rattle.sap_expect.specs.WrongWord.{IsWrongAt};
 ghost use Rattle.sap_where.specs.FileDeclarations.{declared_before};
 ghost use Rattle.sap_where.specs.Parameters.{IsParameter};
 ghost use Rattle.sap_where.specs.Where.{HasStretch, HoldsOnce, IsWhere, StartsFile};
@@ -29,8 +30,10 @@ fn place_among_tokens(
     bytes: &[u8],
     tokens: &[Token],
     fault: &ReadFault,
+    wrong: Option<usize>,
 ) -> Result<Option<Stretch>, Mem>
     requires tokens { HasTokens bytes.now tokens.now }
+    requires wrong { (line : ℕ) → fault.now ≡ Syntax line → IsWrongAt (words_of bytes.now tokens.now) wrong }
     requires no_byte { (f : Lex) → fault.now ≡ LexFault f → ⊥ }
     ensures place { IfOk result (λ o. IfSome o (λ s. IsWhere bytes.now fault.now s)) }
     ensures inside { IfOk result (λ o. IfSome o (λ s. s.from ≤ length bytes.now)) }
@@ -46,7 +49,7 @@ fn place_among_tokens(
     ensures none { IfOk result (λ o. o ≡ None → (s : StretchOf) → IsWhere bytes.now fault.now s → ⊥) }
 {
     match fault {
-        ReadFault::Syntax { .. } => item_place(alloc, bytes, tokens),
+        ReadFault::Syntax { .. } => Ok(item_place(tokens, wrong)),
         ReadFault::FunctionClash { name } => clash_place(alloc, bytes, tokens, name),
         _ => Ok(place_in(bytes, tokens, fault)),
     }
@@ -57,15 +60,18 @@ fn place_among_tokens(
 /// no file goes on, or the end of the last word; of a second process its `process`; of a name that is taken the second definition's name,
 /// or that of the second restriction or lemma, or of the only one; of a parameter that stands twice the second, in the first definition
 /// that has it twice; of a declaration that clashes its first word. `None`, where nothing of this is found in the bytes, and for all other
-/// causes. The tokens are those of the bytes; of a fault of bytes, which have none, they aren't looked at. The time is linear in them, but
-/// for names, which are looked up. Want of memory is the only error.
+/// causes. The tokens are those of the bytes; of a fault of bytes, which have none, they aren't looked at. Of a piece that is no item it is
+/// handed in how many words stand before the first wrong one (`sap_expect::wrong_word`). The time is linear in the tokens, but for names,
+/// which are looked up. Want of memory is the only error.
 pub fn cause_stretch(
     alloc: Global,
     bytes: &[u8],
     tokens: &[Token],
     fault: &ReadFault,
+    wrong: Option<usize>,
 ) -> Result<Option<Stretch>, Mem>
-    requires { ((f : Lex) → fault.now ≡ LexFault f → ⊥) → HasTokens bytes.now tokens.now }
+    requires tokens { ((f : Lex) → fault.now ≡ LexFault f → ⊥) → HasTokens bytes.now tokens.now }
+    requires wrong { (line : ℕ) → fault.now ≡ Syntax line → IsWrongAt (words_of bytes.now tokens.now) wrong }
     ensures place { IfOk result (λ o. IfSome o (λ s. IsWhere bytes.now fault.now s)) }
     ensures inside { IfOk result (λ o. IfSome o (λ s. s.from ≤ length bytes.now)) }
     ensures none { IfOk result (λ o. o ≡ None → (s : StretchOf) → IsWhere bytes.now fault.now s → ⊥) }
@@ -76,5 +82,5 @@ pub fn cause_stretch(
     if let ReadFault::Lex(lex) = fault {
         return Ok(byte_of(*lex, bytes.len() as u64));
     }
-    place_among_tokens(alloc, bytes, tokens, fault)
+    place_among_tokens(alloc, bytes, tokens, fault, wrong)
 }

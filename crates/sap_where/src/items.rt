@@ -23,7 +23,7 @@ fn is_item_word(bytes: &[u8], token: Token) -> bool
 }
 
 /// Whether an item begins with the first of these tokens.
-pub(crate) fn begins_item(bytes: &[u8], tokens: &[Token]) -> bool
+pub fn begins_item(bytes: &[u8], tokens: &[Token]) -> bool
     ensures { result ≡ begins_item (words_of bytes.now tokens.now) }
 {
     match tokens.split_first() {

@@ -5,8 +5,8 @@ ghost use Rattle.sap_where.specs.TokenWords.{is_named, stands};
 use sap_grammar::{beyond, name_at, starts};
 use sap_text::Token;
 
-// Whether this symbol or reserved word stands here.
-pub(crate) fn stands(bytes: &[u8], tokens: &[Token], mark: &str, k: usize) -> bool
+/// Whether this symbol or reserved word is the token of this number.
+pub fn stands(bytes: &[u8], tokens: &[Token], mark: &str, k: usize) -> bool
     ensures { result ≡ stands bytes.now tokens.now mark.now k }
 {
     starts(bytes, beyond(k, tokens), mark)

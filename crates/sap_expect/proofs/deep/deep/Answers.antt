@@ -1,4 +1,4 @@
-use Rattle.sap_grammar.specs.Words.{word_of}
+use Rattle.sap_expect.specs.code.SeenWords.{seen}
 use Rattle.sap_expect.specs.FileTable.{all_but}
 use Rattle.sap_expect.specs.code.Going.{CanGoBy}
 use Rattle.sap_expect.specs.code.WantedView.{stacked}
@@ -25,4 +25,4 @@ returns c =
     let x = rw c.if-branch.false at c.in_ok-goes_without.ensures in
     let y = rw c.if-branch-2.false at c.in_ok-goes_without-2.ensures in
     let z = rw c.if-branch-3.false at c.in_ok-goes_without-3.ensures in
-    none_of_three (λ d. CanGoBy (all_but d) c.args.walk.now.levels (stacked c.args.walk.now.stack.items) (word_of c.args.bytes.now c.args.token)) x y z
+    none_of_three (λ d. CanGoBy (all_but d) c.args.walk.now.levels (stacked c.args.walk.now.stack.items) (seen c.args.word)) x y z

@@ -19,11 +19,11 @@ returns-in-Lex-clause-told c = λ h.
     (byte_stands c.args.bytes.now c.in-Lex.lex c.byte_of.result c.byte_of.ensures)
 
 pub place_among_tokens-requires-clause-tokens : goal.place_among_tokens-requires-clause-tokens
-place_among_tokens-requires-clause-tokens c = c.requires c.in_default.not-Lex
+place_among_tokens-requires-clause-tokens c = c.requires.tokens c.in_default.not-Lex
 
 pub returns-clause-told : goal.returns-clause-told
 returns-clause-told c =
-    let tokens = c.requires c.in_default.not-Lex in
+    let tokens = c.requires.tokens c.in_default.not-Lex in
     stands_among c.args.bytes.now c.args.tokens.now c.args.fault.now c.place_among_tokens.result
     c.in_default.not-Lex tokens.only c.place_among_tokens.ensures.header
     c.place_among_tokens.ensures.once
