@@ -1,0 +1,9 @@
+pub mod BoundNodes
+pub mod BindingNodes
+pub mod Growing
+pub mod Words
+pub mod Walking
+pub mod Ascending
+pub mod Files
+pub mod AllTold
+pub mod ByHand

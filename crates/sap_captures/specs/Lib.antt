@@ -1,0 +1,5 @@
+pub mod Patterns
+pub mod Captures
+pub mod Ascending
+pub mod Examples
+pub mod code

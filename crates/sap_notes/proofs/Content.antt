@@ -1,0 +1,61 @@
+-- What a file says is one, and is what is written.
+use Rattle.std.proofs.Common.{◌≡◌, ℕ, List, Some, map, sym, ap, ◌∙◌, subst}
+use Rattle.sap_text.specs.declared.token.Token.{Token}
+use Rattle.sap_grammar.specs.Cut.{Placed}
+use Rattle.sap_macro.specs.Sources.{definitions, written}
+use Rattle.sap_macro.specs.Written.{Written}
+use Rattle.sap_read.specs.FileProcess.{definitions_of, main_of}
+use Rattle.sap_read.specs.Files.{IsParted}
+use Rattle.sap_read.specs.FileTokens.{HasTokens}
+use Rattle.sap_read.specs.Item.{Standing, bodies, signature_of, statements}
+use Rattle.sap_read.specs.ItemGrammar.{AreItems}
+use Rattle.sap_read.specs.WrittenFiles.{IsWrittenFile}
+use Rattle.sap_read.specs.declared.written.WrittenFile.{WrittenFile}
+use Rattle.sap_statements.specs.Statements.{formula_of}
+use Rattle.sap_notes.specs.Contents.{Content, HasContent}
+
+-- what is written says this
+abbrev pub content_of : WrittenFile → Content
+content_of w = record { signature = w.declared.signature; definitions = definitions w.processes.definitions; process = written w.processes.main.value; formulas = map formula_of w.statements }
+
+pub has_content : (z : List ℕ) (ts : List Token) (w : WrittenFile) → HasTokens z ts → IsWrittenFile z w → HasContent z ts (content_of w)
+has_content z ts w tokens is = record {
+  name = w.name;
+  cut = is.cut;
+  standing = is.standing;
+  parted = subst (λ (us : List Token). IsParted z us w.name is.cut) (tokens.only is.tokens is.parted.tokens) is.parted;
+  items = is.items;
+  signature_is = is.signature;
+  definitions_are = is.definitions_are;
+  process_is = is.main_is;
+  formulas_are = ap (map formula_of) is.statements_are;
+}
+
+-- bytes are parted in one way, and pieces spell one list of items
+pub record AreOnce : Type 0 where
+  pub tokens : (z : List ℕ) (ts us : List Token) (x y : List ℕ) (cut other : List (List Placed)) → IsParted z ts x cut → IsParted z us y other → ts ≡ us
+  pub cuts : (z : List ℕ) (ts us : List Token) (x y : List ℕ) (cut other : List (List Placed)) → IsParted z ts x cut → IsParted z us y other → cut ≡ other
+  pub items : (cut : List (List Placed)) (is js : List Standing) → AreItems (signature_of is) cut is → AreItems (signature_of js) cut js → is ≡ js
+
+same_some : (p q : Written) → Some p ≡ Some q → p ≡ q
+same_some p q e = cc
+
+same_content : (f h : Content) → f.signature ≡ h.signature → f.definitions ≡ h.definitions → f.process ≡ h.process → f.formulas ≡ h.formulas → f ≡ h
+same_content f h a b c d = λ i. record { signature = a i; definitions = b i; process = c i; formulas = d i }
+
+module _ (once : AreOnce) (z : List ℕ) (ts us : List Token) (f h : Content) (a : HasContent z ts f) (b : HasContent z us h) where
+  pub one_tokens : ts ≡ us
+  one_tokens = once.tokens z ts us a.name b.name a.cut b.cut a.parted b.parted
+
+  same_standing : a.standing ≡ b.standing
+  same_standing =
+      let cuts : a.cut ≡ b.cut = once.cuts z ts us a.name b.name a.cut b.cut a.parted b.parted in
+      once.items b.cut a.standing b.standing (subst (λ (c : List (List Placed)). AreItems (signature_of a.standing) c a.standing) cuts a.items) b.items
+
+  pub one_content : f ≡ h
+  one_content =
+      let same = same_standing in
+      same_content f h (a.signature_is ∙ (ap signature_of same ∙ sym b.signature_is))
+      (a.definitions_are ∙ (ap (λ (is : List Standing). definitions_of (bodies is)) same ∙ sym b.definitions_are))
+      (same_some f.process h.process (sym a.process_is ∙ (ap (λ (is : List Standing). main_of (bodies is)) same ∙ b.process_is)))
+      (a.formulas_are ∙ (ap (λ (is : List Standing). map formula_of (statements is)) same ∙ sym b.formulas_are))

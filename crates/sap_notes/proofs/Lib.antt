@@ -1,0 +1,12 @@
+pub mod Gathered
+pub mod Entries
+pub mod Leading
+pub mod Others
+pub mod Ascending
+pub mod Content
+pub mod Spans
+pub mod Found
+pub mod Telling
+pub mod ByHand
+pub mod Whole
+pub mod Steps

@@ -1,0 +1,5 @@
+-- What the code does, step by step: no public contract cites what stands below.
+pub mod Gathered
+pub mod Led
+pub mod Others
+pub mod Walk
