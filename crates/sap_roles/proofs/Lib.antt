@@ -7,6 +7,6 @@ pub mod Uses
 pub mod Given
 pub mod Answered
 pub mod Forms
-pub mod Numbered
 pub mod Longer
-pub mod Placed
+pub mod NamedRoles
+pub mod Casts

@@ -39,7 +39,7 @@ new_behind known (c ∷ es) (suc k) d order e = by (bytes_eq c.name d.name) (new
     by false h = h
 
 -- a definition behind has another name
-other_behind : (known : List (List ℕ)) (x : List ℕ) (es : List plain.Definition) (k : ℕ) (d : plain.Definition) → AreInOrder (x ∷ known) es → slice_get es k ≡ Some d → bytes_eq x d.name ≡ false
+pub other_behind : (known : List (List ℕ)) (x : List ℕ) (es : List plain.Definition) (k : ℕ) (d : plain.Definition) → AreInOrder (x ∷ known) es → slice_get es k ≡ Some d → bytes_eq x d.name ≡ false
 other_behind known x es k d order e = by (bytes_eq x d.name) (new_behind (x ∷ known) es k d order e)
   where
     by : (t : Bool) → (t || is_known known d.name) ≡ false → t ≡ false

@@ -2,6 +2,5 @@ pub mod PlacesAlong
 pub mod Roles
 pub mod Forms
 pub mod RoleExamples
-pub mod Numbers
-pub mod NumberExamples
+pub mod Casts
 pub mod code
