@@ -17,7 +17,9 @@ use Rattle.sap_terms.specs.Trace.{Trace}
 use Rattle.sap_terms.specs.Tree.{Tree, fresh, public}
 use Rattle.sap_tell.specs.Escaped.{escaped, escaped_byte, is_no_mark}
 use Rattle.sap_tell.specs.Told as told
-use Rattle.sap_tell.specs.ToldExamples.{fresh_n}
+use Rattle.sap_players.specs.Casts.{Cast}
+use Rattle.sap_tell.specs.Stages.{stage_of}
+use Rattle.sap_tell.specs.ToldExamples.{fresh_n, no_roles}
 use Rattle.sap_called.specs.Names.{Draw, draw}
 use Rattle.sap_chart.specs.Chart as drawn
 use Rattle.sap_chart.specs.Chart.{IsChart, IsDrawnRun}
@@ -30,8 +32,8 @@ use Rattle.sap_chart.specs.declared.figure.Figure.TheVariants as figure
 use Rattle.sap_chart.proofs.AllRows.{all_rows}
 
 -- the run with no line has no row
-no_rows : {g : Sig} {p : Proc} {lines : List PStep} {c : Config} {es : List Tree} {tr : Trace} {marks : List Mark} {ds : List Draw} {rows : List Row}
-    → IsDrawnRun g p lines c es tr marks ds rows → lines ≡ [] → rows ≡ []
+no_rows : {g : Sig} {p : Proc} {cast : Cast} {lines : List PStep} {c : Config} {es : List Tree} {tr : Trace} {marks : List Mark} {ds : List Draw} {rows : List Row}
+    → IsDrawnRun g p cast lines c es tr marks ds rows → lines ≡ [] → rows ≡ []
 no_rows drawn.starts e = refl
 no_rows (drawn.further {lines = before} step inner label told h l t) e = let n : length (before ++ step ∷ []) ≡ length {A = PStep} [] = ap length e in absurd (omega (arith, length-append before (step ∷ [])))
 
@@ -40,8 +42,8 @@ begins_so : chart_text [] ≡ empty_chart
 unfolding digits escaped_byte
 begins_so = refl
 
-pub not_nothing : (g : Sig) (p : Proc) (tr : Trace) → ¬ IsChart g p [] tr []
-not_nothing g p tr h =
+pub not_nothing : (g : Sig) (p : Proc) (cast : Cast) (tr : Trace) → ¬ IsChart g p cast [] tr []
+not_nothing g p cast tr h =
     let e : [] ≡ empty_chart = h.written ∙ ap chart_text (no_rows h.drawn refl) ∙ begins_so in
     absurd (true≢false (ap (λ (t : List ℕ). bytes_eq [] t) e))
 
@@ -85,7 +87,7 @@ ended = becomes named 0 None
 abbrev first_row : Row
 first_row = record {
   number = 1;
-  paths = [] ∷ [];
+  stage = stage_of no_roles [] (line.New 0 7);
   figure = figure.Does 0;
   entry = None;
   told = codes "1. thread 0 at the root: new ~n -- ~n = ~n.1";
@@ -95,36 +97,36 @@ first_row = record {
 abbrev last_row : Row
 last_row = record {
   number = 3;
-  paths = (1 ∷ []) ∷ [];
+  stage = stage_of no_roles (line.New 0 7 ∷ line.Nil 0 ∷ []) (line.Public (codes "a"));
   figure = figure.Makes;
   entry = Some 0;
   told = codes "3. adversary: 'a' -- knows 0: 'a'";
   label = codes "'a'";
 }
 
-first_drawn : (g : Sig) → IsDrawnRun g one_thread (line.New 0 7 ∷ []) named [] [] [] first_draws (first_row ∷ [])
+first_drawn : (g : Sig) → IsDrawnRun g one_thread no_roles (line.New 0 7 ∷ []) named [] [] [] first_draws (first_row ∷ [])
 unfolding digits
 first_drawn g = drawn.further (line.New 0 7) [] [] first_row.told drawn.starts (lines.makes_name 0 7 refl ((λ m. absurd (omega (arith, m.1))), (λ m. absurd (omega (arith, m.1)))))
     (record { doing = codes "new ~n"; outcomes = codes "~n = ~n.1" ∷ []; done = told.makes_name 0 7 refl; written = refl })
 
-second_drawn : (g : Sig) → IsDrawnRun g one_thread (line.New 0 7 ∷ line.Nil 0 ∷ []) ended [] [] [] first_draws (first_row ∷ [])
+second_drawn : (g : Sig) → IsDrawnRun g one_thread no_roles (line.New 0 7 ∷ line.Nil 0 ∷ []) ended [] [] [] first_draws (first_row ∷ [])
 unfolding digits
 second_drawn g = drawn.further {lines = line.New 0 7 ∷ []} (line.Nil 0) [] [] (codes "2. thread 0 at 1: 0 -- thread 0 ends") (first_drawn g) (lines.ends 0 refl)
     (record { doing = codes "0"; outcomes = codes "thread 0 ends" ∷ []; done = told.ends 0; written = refl })
 
-third_drawn : (g : Sig) → IsDrawnRun g one_thread (line.New 0 7 ∷ line.Nil 0 ∷ line.Public (codes "a") ∷ []) ended (public (codes "a") ∷ []) [] [] first_draws (first_row ∷ last_row ∷ [])
+third_drawn : (g : Sig) → IsDrawnRun g one_thread no_roles (line.New 0 7 ∷ line.Nil 0 ∷ line.Public (codes "a") ∷ []) ended (public (codes "a") ∷ []) [] [] first_draws (first_row ∷ last_row ∷ [])
 unfolding digits
 third_drawn g = drawn.further {lines = line.New 0 7 ∷ line.Nil 0 ∷ []} (line.Public (codes "a")) [] [] last_row.told (second_drawn g) (lines.writes (codes "a"))
     (record { doing = codes "'a'"; outcomes = []; done = told.writes (codes "a"); written = refl })
 
-pub three_lines : (g : Sig) → IsChart g one_thread (line.New 0 7 ∷ line.Nil 0 ∷ line.Public (codes "a") ∷ []) [] two_rows
+pub three_lines : (g : Sig) → IsChart g one_thread no_roles (line.New 0 7 ∷ line.Nil 0 ∷ line.Public (codes "a") ∷ []) [] two_rows
 unfolding digits escaped_byte
 three_lines g = record { config = ended; entries = public (codes "a") ∷ []; marks = []; draws = first_draws; rows = first_row ∷ last_row ∷ []; drawn = third_drawn g; written = refl }
 
 -- with a row left out it isn't their chart: two of them are drawn, and there is one title
 pub left_out : ((z : List ℕ) → list_all is_no_mark (escaped z) ≡ true) → (g : Sig) (tr : Trace)
-    → ¬ IsChart g one_thread (line.New 0 7 ∷ line.Nil 0 ∷ line.Public (codes "a") ∷ []) tr row_left_out
+    → ¬ IsChart g one_thread no_roles (line.New 0 7 ∷ line.Nil 0 ∷ line.Public (codes "a") ∷ []) tr row_left_out
 left_out marks g tr h =
-    let two : length (row_titles row_left_out) ≡ 2 = all_rows marks g one_thread _ tr row_left_out h in
+    let two : length (row_titles row_left_out) ≡ 2 = all_rows marks g one_thread no_roles _ tr row_left_out h in
     let one : length (row_titles row_left_out) ≡ 1 = refl in
     absurd (true≢false (ap (λ n. nat_eq n 1) (sym one ∙ two)))

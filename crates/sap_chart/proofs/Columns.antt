@@ -7,10 +7,11 @@ use Rattle.std.specs.Prelude.{flat_map, ⊤}
 use Rattle.std.proofs.lemmas.Grind.{flat_map-append}
 use Rattle.std.proofs.lemmas.List.{append-nil, map-append}
 use Rattle.std.proofs.lemmas.List.Sums.{fold-append}
+use Rattle.sap_tell.specs.Stages.{Stage}
 use Rattle.sap_tell.specs.ToldText.{thread_text}
 use Rattle.sap_chart.specs.ChartText.{Lifeline, across, across_to, arrow_text, box_text, drawn_threads, figure_text, lifelines, mark_text, chart_text, named_threads, row_around, row_text, rows_text, with_lifeline}
 use Rattle.sap_chart.specs.Rows.{Row, rows_with, shortened, threads_of}
-use Rattle.sap_chart.specs.code.Drawing.{drawn_text, threads_in}
+use Rattle.sap_chart.specs.code.Drawing.{drawn_text, nobody, threads_in}
 use Rattle.sap_chart.specs.declared.figure.Figure.{Figure}
 use Rattle.sap_chart.specs.declared.figure.Figure.TheVariants as figure
 
@@ -124,9 +125,9 @@ all_have ls (a ∷ news) =
     let g = all_grown (with_lifeline ls a) news in
     (subst (λ (ms : List Lifeline). HasLifeline ms a.0) (sym g.is) (kept (with_lifeline ls a) g.more a.0 (one_has ls a)), all_have (with_lifeline ls a) news)
 
-threads_named : (paths : List (List ℕ)) (ts : List ℕ) → drawn_threads (map (λ t. (t, thread_text paths t)) ts) ≡ ts
-threads_named paths [] = refl
-threads_named paths (t ∷ ts) = ap (λ z. t ∷ z) (threads_named paths ts)
+threads_named : (s : Stage) (ts : List ℕ) → drawn_threads (map (λ t. (t, thread_text s t)) ts) ≡ ts
+threads_named s [] = refl
+threads_named s (t ∷ ts) = ap (λ z. t ∷ z) (threads_named s ts)
 
 -- so far these rows are drawn
 pub record IsDrawing (ls : List Lifeline) (body : List ℕ) (count : ℕ) (rows : List Row) : Type 0 where
@@ -144,20 +145,20 @@ lifelines_more rows r =
     ∙ fold-append with_lifeline [] (flat_map named_threads rows) (named_threads r)
 
 -- one more line, which has a row or hasn't
-pub next_drawing : (ls ms : List Lifeline) (body text : List ℕ) (count n : ℕ) (rows : List Row) (number : ℕ) (paths : List (List ℕ)) (entry : Option ℕ) (told label : List ℕ) (o : Option Figure)
-    → IsDrawing ls body count rows → ms ≡ fold with_lifeline ls (threads_in paths o)
-    → text ≡ body ++ rows_text ms count (rows_with number [] entry told label o) → n ≡ count + length (rows_with number [] entry told label o)
-    → IsDrawing ms text n (rows ++ rows_with number paths entry told label o)
-next_drawing ls ms body text count n rows number paths entry told label None h p q s =
+pub next_drawing : (ls ms : List Lifeline) (body text : List ℕ) (count n : ℕ) (rows : List Row) (number : ℕ) (stage : Stage) (entry : Option ℕ) (told label : List ℕ) (o : Option Figure)
+    → IsDrawing ls body count rows → ms ≡ fold with_lifeline ls (threads_in stage o)
+    → text ≡ body ++ rows_text ms count (rows_with number nobody entry told label o) → n ≡ count + length (rows_with number nobody entry told label o)
+    → IsDrawing ms text n (rows ++ rows_with number stage entry told label o)
+next_drawing ls ms body text count n rows number stage entry told label None h p q s =
     let same : n ≡ count = omega arith in
     let here : text ≡ body = q ∙ append-nil body in
     rw (append-nil rows) (subst (λ (zs : List Lifeline). IsDrawing zs text n rows) (sym p) (rw (same, here) h))
-next_drawing ls ms body text count n rows number paths entry told label (Some f) h p q s =
-    let r : Row = record { number = number; paths = paths; figure = f; entry = entry; told = told; label = label } in
+next_drawing ls ms body text count n rows number stage entry told label (Some f) h p q s =
+    let r : Row = record { number = number; stage = stage; figure = f; entry = entry; told = told; label = label } in
     let g = all_grown ls (named_threads r) in
     let grown : ms ≡ ls ++ g.more = p ∙ g.is in
     let old : AllDrawn ms rows = subst (λ (zs : List Lifeline). AllDrawn zs rows) (sym grown) (rows_kept ls g.more rows h.drawn) in
-    let here : HaveLifelines ms (threads_of f) = subst (λ (zs : List Lifeline). HaveLifelines zs (threads_of f)) (sym p) (subst (HaveLifelines (fold with_lifeline ls (named_threads r))) (threads_named paths (threads_of f)) (all_have ls (named_threads r))) in
+    let here : HaveLifelines ms (threads_of f) = subst (λ (zs : List Lifeline). HaveLifelines zs (threads_of f)) (sym p) (subst (HaveLifelines (fold with_lifeline ls (named_threads r))) (threads_named stage (threads_of f)) (all_have ls (named_threads r))) in
     let before : body ≡ rows_text ms 0 rows = h.text ∙ sym (texts_kept ls g.more 0 rows h.drawn) ∙ ap (λ zs. rows_text zs 0 rows) (sym grown) in
     let at : count ≡ 0 + length rows = h.counted ∙ (omega arith) in
     record {

@@ -3,7 +3,7 @@ use Rattle.std.proofs.Common.{◌≡◌, ◌+◌, ◌-◌, ◌*◌, ℕ, Bool, t
 use Rattle.std.specs.List.{list_any}
 use Rattle.std.specs.Prelude.{bytes_eq}
 use Rattle.sap_tell.specs.Escaped.{escaped, has_meaning}
-use Rattle.sap_chart.specs.ChartText.{Lifeline, above_text, across, across_to, again_text, arrow_text, box_text, chart_text, down, entry_text, figure_text, head_text, heads_text, lifelines, margin_text, row_text, rows_text, who_text}
+use Rattle.sap_chart.specs.ChartText.{Lifeline, above_text, across, across_to, again_text, arrow_text, box_text, chart_text, down, entry_text, figure_text, head_of, head_text, heads_text, lifelines, margin_text, row_text, rows_text, who_text}
 use Rattle.sap_chart.specs.Rows.{Row, shortened}
 use Rattle.sap_chart.specs.WellFormed.{AttributesThen, ContentThen, IsDocument, PlainThen, attribute, content_ends, document, element, empty, is_attribute_name, itself, no_more, number, plain, plain_ends, written}
 use Rattle.sap_chart.specs.declared.figure.Figure.{Figure}
@@ -193,7 +193,7 @@ head_formed column name =
     (title name
     (empty (codes "line") refl (as_is (codes "y1") (codes "32") refl refl refl (as_is (codes "y2") (codes "100%") refl refl refl (as_is (codes "stroke") (codes "black") refl refl refl (as_is (codes "stroke-dasharray") (codes "2,4") refl refl refl (no_more _)))))
     (element {v = codes "</g>\n"} (codes "text") refl (as_is (codes "y") (codes "24") refl refl refl (as_is (codes "text-anchor") (codes "middle") refl refl refl (no_more _)))
-    (plain (written (shortened 18 name) (plain_ends (codes "</text></g>\n"))) (content_ends (codes "</text></g>\n")))
+    (plain (written (shortened 18 (head_of name)) (plain_ends (codes "</text></g>\n"))) (content_ends (codes "</text></g>\n")))
     (content_ends (codes "</g>\n")))))
     line_feed
 

@@ -6,11 +6,13 @@ use Rattle.sap_deduce.specs.Entries.{Entry, terms_of}
 use Rattle.sap_runs.specs.declared.process_step.PStep.{PStep}
 use Rattle.sap_terms.specs.Trace.{shown}
 use Rattle.sap_terms.specs.declared.fact.Fact.{Fact}
+use Rattle.sap_tell.specs.Stages.{Stage}
+use Rattle.sap_tell.specs.ToldText.{actor_text}
 use Rattle.sap_teller.specs.Telling.{IsToldApart}
 use Rattle.sap_teller.specs.declared.telling.Along.{Along}
 use Rattle.sap_chart.specs.ChartText.{rows_text, with_lifeline}
 use Rattle.sap_chart.specs.Rows.{figure_of, new_entry, rows_with}
-use Rattle.sap_chart.specs.code.Drawing.{IsNextDrawn, threads_in}
+use Rattle.sap_chart.specs.code.Drawing.{IsNextDrawn, nobody, threads_in}
 use Rattle.sap_chart.specs.declared.chart.Drawing.{Drawing}
 use Rattle.sap_chart.specs.declared.figure.Figure.{Figure}
 
@@ -25,20 +27,20 @@ entry_is y z known after p q =
     (λ i. if nat_lt (before i) (behind i) then Some (before i) else None)
 
 -- lifelines come, the line is told, and its row comes
-pub next_drawn : (y z : Running) (a b : Along) (d m e : Drawing) (step : PStep) (label : List Fact) (before told start apart title words : List ℕ) (o : Option Figure) (entry : Option ℕ)
-    → before ≡ [] → start ≡ [] → title ≡ told → words ≡ apart → o ≡ figure_of step → entry ≡ new_entry (terms_of y.known) (terms_of z.known)
-    → IsToldApart y z a b before told start apart step label
-    → m.lifelines.entries ≡ fold with_lifeline d.lifelines.entries (threads_in a.paths o) → m.body ≡ d.body → m.rows ≡ d.rows → m.trace ≡ d.trace
-    → e.lifelines.entries ≡ m.lifelines.entries → e.body ≡ m.body ++ rows_text m.lifelines.entries m.rows (rows_with (a.lines + 1) [] entry title words o)
-    → e.rows ≡ m.rows + length (rows_with (a.lines + 1) [] entry title words o) → e.trace ≡ m.trace ++ shown label
-    → IsNextDrawn y z a b d e step
-next_drawn y z a b d m e step label before told start apart title words o entry p q r s t n done ml mb mr mt el eb er et = record {
+pub next_drawn : (s : Stage) (who : List ℕ) (y z : Running) (a b : Along) (d m e : Drawing) (step : PStep) (label : List Fact) (before told start apart title words : List ℕ) (o : Option Figure) (entry : Option ℕ)
+    → who ≡ actor_text s step → before ≡ [] → start ≡ [] → title ≡ told → words ≡ apart → o ≡ figure_of step → entry ≡ new_entry (terms_of y.known) (terms_of z.known)
+    → IsToldApart y z a b who before told start apart step label
+    → m.lifelines.entries ≡ fold with_lifeline d.lifelines.entries (threads_in s o) → m.body ≡ d.body → m.rows ≡ d.rows → m.trace ≡ d.trace
+    → e.lifelines.entries ≡ m.lifelines.entries → e.body ≡ m.body ++ rows_text m.lifelines.entries m.rows (rows_with (a.lines + 1) nobody entry title words o)
+    → e.rows ≡ m.rows + length (rows_with (a.lines + 1) nobody entry title words o) → e.trace ≡ m.trace ++ shown label
+    → IsNextDrawn s y z a b d e step
+next_drawn s who y z a b d m e step label before told start apart title words o entry acts p q r v t n done ml mb mr mt el eb er et = record {
   label = label;
   told = told;
   apart = apart;
-  done = subst (λ (w : List ℕ). IsToldApart y z a b [] told w apart step label) q (subst (λ (w : List ℕ). IsToldApart y z a b w told start apart step label) p done);
-  lifelines = el ∙ ml ∙ ap (λ x. fold with_lifeline d.lifelines.entries (threads_in a.paths x)) t;
-  body = eb ∙ (λ i. mb i ++ rows_text (sym el i) (mr i) (rows_with (a.lines + 1) [] (n i) (r i) (s i) (t i)));
-  rows = er ∙ (λ i. mr i + length (rows_with (a.lines + 1) [] (n i) (r i) (s i) (t i)));
+  done = subst (λ (w : List ℕ). IsToldApart y z a b (actor_text s step) [] told w apart step label) q (subst (λ (w : List ℕ). IsToldApart y z a b (actor_text s step) w told start apart step label) p (subst (λ (w : List ℕ). IsToldApart y z a b w before told start apart step label) acts done));
+  lifelines = el ∙ ml ∙ ap (λ x. fold with_lifeline d.lifelines.entries (threads_in s x)) t;
+  body = eb ∙ (λ i. mb i ++ rows_text (sym el i) (mr i) (rows_with (a.lines + 1) nobody (n i) (r i) (v i) (t i)));
+  rows = er ∙ (λ i. mr i + length (rows_with (a.lines + 1) nobody (n i) (r i) (v i) (t i)));
   trace = et ∙ ap (λ x. x ++ shown label) mt;
 }

@@ -87,7 +87,7 @@ acting t [] = refl
 acting t (r ∷ rs) =
     ap (list_any (nat_eq t)) (map-append (λ (l : Lifeline). l.0) (named_threads r) (flat_map named_threads rs))
     ∙ list_any-append (nat_eq t) (drawn_threads (named_threads r)) (drawn_threads (flat_map named_threads rs))
-    ∙ (λ i. list_any (nat_eq t) (unnamed (thread_text r.paths) (threads_of r.figure) i) || acting t rs i)
+    ∙ (λ i. list_any (nat_eq t) (unnamed (thread_text r.stage) (threads_of r.figure) i) || acting t rs i)
 
 pub one_lifeline : ThreadsHaveOneLifeline
 one_lifeline rows t = all_once t (flat_map named_threads rows) [] refl ∙ ap one (acting t rows)

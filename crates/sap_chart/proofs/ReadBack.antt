@@ -4,7 +4,7 @@ use Rattle.std.proofs.Math.Seq.{drop-append-add}
 use Rattle.std.specs.List.{list_all, list_any, position_or_len, starts_with}
 use Rattle.sap_tell.specs.Escaped.{StandsFor, escaped, has_meaning, is_no_mark}
 use Rattle.sap_chart.specs.ChartLaws.{EqualChartsTellTheSame, ToldLinesAreReadBack, told_lines}
-use Rattle.sap_chart.specs.ChartText.{Lifeline, above_text, across, across_to, arrow_text, chart_text, down, entry_text, figure_text, head_text, heads_text, label_text, lifelines, row_text, rows_text, start_text, who_text}
+use Rattle.sap_chart.specs.ChartText.{Lifeline, above_text, across, across_to, arrow_text, chart_text, down, entry_text, figure_text, head_of, head_text, heads_text, label_text, lifelines, row_text, rows_text, start_text, who_text}
 use Rattle.sap_chart.specs.Rows.{Row, shortened}
 use Rattle.sap_chart.specs.Titles.{StandForEach, before_mark, begins_row_title, in_mark, none, one_more, row_titles}
 use Rattle.sap_chart.specs.declared.figure.Figure.{Figure}
@@ -174,8 +174,8 @@ module _ (marks : (z : List ℕ) → list_all is_no_mark (escaped z) ≡ true) w
   head_untitled column name =
       let behind = codes "/title><line y1='32' y2='100%' stroke='black' stroke-dasharray='2,4'/><text y='24' text-anchor='middle'>" in
       own (codes "<g transform='translate(") (λ t. refl) (both (decimal (across column)) (number (across column)) (own (codes ",0)'>") (λ t. refl)
-      (another_title name (behind ++ (escaped (shortened 18 name) ++ codes "</text></g>\n")) (λ t. refl)
-      (own (60 ∷ behind) (λ t. refl) (both (escaped (shortened 18 name)) (written (shortened 18 name)) (none_in _ (λ t. refl)))))))
+      (another_title name (behind ++ (escaped (shortened 18 (head_of name)) ++ codes "</text></g>\n")) (λ t. refl)
+      (own (60 ∷ behind) (λ t. refl) (both (escaped (shortened 18 (head_of name))) (written (shortened 18 (head_of name))) (none_in _ (λ t. refl)))))))
 
   heads_untitled : (column : ℕ) (ls : List Lifeline) → IsUntitled (heads_text column ls)
   heads_untitled column [] = none_in [] (λ t. refl)

@@ -2,7 +2,7 @@
 use Rattle.std.specs.Prelude.{ℕ, codes, List, [], ◌∷◌, Some, None}
 use Rattle.sap_runs.specs.declared.process_step.PStep.TheVariants as line
 use Rattle.sap_tell.specs.ThreadPaths.{paths_after}
-use Rattle.sap_tell.specs.ToldExamples.{first_paths}
+use Rattle.sap_tell.specs.ToldExamples.{first_paths, first_stage, no_roles, two_roles}
 use Rattle.sap_chart.specs.ChartText.{Lifeline}
 use Rattle.sap_chart.specs.Rows.{Row}
 use Rattle.sap_chart.specs.declared.figure.Figure.TheVariants as figure
@@ -11,7 +11,7 @@ use Rattle.sap_chart.specs.declared.figure.Figure.TheVariants as figure
 abbrev pub made_row : Row
 made_row = record {
   number = 4;
-  paths = first_paths;
+  stage = first_stage;
   figure = figure.Shows 2;
   entry = None;
   told = codes "4. thread 2 at 111: event Made(pk(~sk.1)) -- shows Made(pk(~sk.1))";
@@ -21,7 +21,7 @@ made_row = record {
 abbrev pub out_row : Row
 out_row = record {
   number = 8;
-  paths = first_paths;
+  stage = first_stage;
   figure = figure.Puts 2;
   entry = Some 0;
   told = codes "8. thread 2 at 111: out(pk(~sk.1)) -- knows 0: pk(~sk.1)";
@@ -31,7 +31,7 @@ out_row = record {
 abbrev pub in_row : Row
 in_row = record {
   number = 11;
-  paths = first_paths;
+  stage = first_stage;
   figure = figure.Takes 1;
   entry = None;
   told = codes "11. thread 1 at 2: in('hi') -- shows K('hi'), x = 'hi'";
@@ -42,7 +42,7 @@ in_row = record {
 abbrev pub later_row : Row
 later_row = record {
   number = 5;
-  paths = paths_after first_paths (line.Event 2);
+  stage = record { cast = no_roles; played = []; paths = paths_after first_paths (line.Event 2) };
   figure = figure.Locks 2;
   entry = None;
   told = codes "5. thread 2 at 1111: lock 'db' -- 'db' is held";
@@ -52,7 +52,7 @@ later_row = record {
 abbrev pub met_row : Row
 met_row = record {
   number = 12;
-  paths = first_paths;
+  stage = first_stage;
   figure = figure.Meets 1 2;
   entry = None;
   told = codes "12. thread 1 at 2 to thread 2 at 111: out('c','m') -- x = 'm'";
@@ -62,11 +62,22 @@ met_row = record {
 abbrev pub long_row : Row
 long_row = record {
   number = 12;
-  paths = first_paths;
+  stage = first_stage;
   figure = figure.Does 2;
   entry = None;
   told = codes "12. thread 2 at 111: aaaaaaaaaaaaaaaaaaaaaaaaaaaaaaaaaaaaaaaaaaaaaaaaaaaaaaaaaaaaa";
   label = codes "aaaaaaaaaaaaaaaaaaaaaaaaaaaaaaaaaaaaaaaaaaaaaaaaaaaaaaaaaaaaa";
+}
+
+-- thread 2 is told by its role
+abbrev pub maker_row : Row
+maker_row = record {
+  number = 4;
+  stage = record { cast = two_roles; played = (2, 1) ∷ []; paths = first_paths };
+  figure = figure.Shows 2;
+  entry = None;
+  told = codes "4. Maker #1 (thread 2) at 111: event Made(pk(~sk.1)) -- shows Made(pk(~sk.1))";
+  label = codes "event Made(pk(~sk.1))";
 }
 
 -- the lifelines of the first three

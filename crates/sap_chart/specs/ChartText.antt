@@ -1,19 +1,19 @@
 -- The text of a chart, from its rows: a picture of the format SVG 1.1. Lengths are in pixels.
-use Rattle.std.specs.Prelude.{ℕ, ◌+◌, ◌-◌, ◌*◌, nat_eq, nat_lt, codes, decimal, List, [], ◌∷◌, ◌++◌, length, map, flat_map, fold, min, max, Option, Some, None, if◌then◌else◌}
-use Rattle.std.specs.List.{list_any, position_or_len}
+use Rattle.std.specs.Prelude.{ℕ, Bool, not, take, ◌==◌, ◌+◌, ◌-◌, ◌*◌, nat_eq, nat_lt, codes, decimal, List, [], ◌∷◌, ◌++◌, length, map, flat_map, fold, min, max, Option, Some, None, if◌then◌else◌}
+use Rattle.std.specs.List.{list_any, position_or_len, prefix_len}
 use Rattle.sap_tell.specs.Escaped.{escaped}
 use Rattle.sap_tell.specs.ToldText.{thread_text}
 use Rattle.sap_chart.specs.Rows.{Row, threads_of, shortened}
 use Rattle.sap_chart.specs.declared.figure.Figure.{Figure}
 use Rattle.sap_chart.specs.declared.figure.Figure.TheVariants as figure
 
--- a thread by its number, and its name: where it stands
+-- a thread by its number, and its name: what it is called, and where it stands
 abbrev pub Lifeline : Type 0
 Lifeline = ℕ × List ℕ
 
 -- the threads of a row, with their names
 abbrev pub named_threads : Row → List Lifeline
-named_threads r = map (λ t. (t, thread_text r.paths t)) (threads_of r.figure)
+named_threads r = map (λ t. (t, thread_text r.stage t)) (threads_of r.figure)
 
 -- the threads that have these lifelines
 abbrev pub drawn_threads : List Lifeline → List ℕ
@@ -23,7 +23,7 @@ drawn_threads ls = map (λ (l : Lifeline). l.0) ls
 abbrev pub with_lifeline : List Lifeline → Lifeline → List Lifeline
 with_lifeline ls a = if list_any (nat_eq a.0) (drawn_threads ls) then ls else ls ++ a ∷ []
 
--- each thread that does something once, in the order of what they first do, by the place at which they do this
+-- each thread that does something once, in the order of what they first do, by its name then
 abbrev pub lifelines : List Row → List Lifeline
 lifelines rows = fold with_lifeline [] (flat_map named_threads rows)
 
@@ -41,12 +41,19 @@ across_to ls t = across (column_of ls t)
 abbrev pub down : ℕ → ℕ
 down k = 70 + 30 * k
 
--- a lifeline with its name above it, whole in its title
+-- what stands of a name before a blank and a parenthesis, or all of it: of a thread with a role which one of the role it is
+abbrev pub opens_none : ℕ → Bool
+opens_none x = not (x == 40)
+
+abbrev pub head_of : List ℕ → List ℕ
+head_of name = if nat_lt (prefix_len opens_none name) (length name) then take (prefix_len opens_none name - 1) name else name
+
+-- a lifeline with this above it, and its name whole in its title
 abbrev pub head_text : ℕ → List ℕ → List ℕ
 head_text column name =
     codes "<g transform='translate(" ++ (decimal (across column) ++ (codes ",0)'><title>" ++ (escaped name
     ++ (codes "</title><line y1='32' y2='100%' stroke='black' stroke-dasharray='2,4'/><text y='24' text-anchor='middle'>"
-    ++ (escaped (shortened 18 name) ++ codes "</text></g>\n")))))
+    ++ (escaped (shortened 18 (head_of name)) ++ codes "</text></g>\n")))))
 
 abbrev pub heads_text : ℕ → List Lifeline → List ℕ
 heads_text column [] = []

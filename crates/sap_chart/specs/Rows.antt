@@ -2,6 +2,7 @@
 use Rattle.std.specs.Prelude.{ℕ, ◌+◌, nat_le, nat_lt, codes, List, [], ◌∷◌, ◌++◌, length, take, Option, Some, None, if◌then◌else◌}
 use Rattle.sap_runs.specs.declared.process_step.PStep.{PStep}
 use Rattle.sap_runs.specs.declared.process_step.PStep.TheVariants as line
+use Rattle.sap_tell.specs.Stages.{Stage}
 use Rattle.sap_terms.specs.Tree.{Tree}
 use Rattle.sap_chart.specs.declared.figure.Figure.{Figure}
 use Rattle.sap_chart.specs.declared.figure.Figure.TheVariants as figure
@@ -42,11 +43,11 @@ threads_of (figure.Locks t) = t ∷ []
 threads_of (figure.Does t) = t ∷ []
 threads_of figure.Makes = []
 
--- A line that is drawn: its number, where threads stand, its figure, the entry that is known from then on, if there is one, the told
+-- A line that is drawn: its number, by what its threads are called, its figure, the entry that is known from then on, if there is one, the told
 -- line, and what is done with what comes of it beside what is shown and known.
 pub record Row : Type 0 where
   pub number : ℕ
-  pub paths : List (List ℕ)
+  pub stage : Stage
   pub figure : Figure
   pub entry : Option ℕ
   pub told : List ℕ
@@ -57,12 +58,12 @@ abbrev pub new_entry : List Tree → List Tree → Option ℕ
 new_entry es fs = if nat_lt (length es) (length fs) then Some (length es) else None
 
 -- the row of a line, if it has a figure
-abbrev pub rows_with : ℕ → List (List ℕ) → Option ℕ → List ℕ → List ℕ → Option Figure → List Row
-rows_with number paths entry told label None = []
-rows_with number paths entry told label (Some f) = record { number = number; paths = paths; figure = f; entry = entry; told = told; label = label } ∷ []
+abbrev pub rows_with : ℕ → Stage → Option ℕ → List ℕ → List ℕ → Option Figure → List Row
+rows_with number stage entry told label None = []
+rows_with number stage entry told label (Some f) = record { number = number; stage = stage; figure = f; entry = entry; told = told; label = label } ∷ []
 
-abbrev pub rows_of : ℕ → List (List ℕ) → Option ℕ → PStep → List ℕ → List ℕ → List Row
-rows_of number paths entry step told label = rows_with number paths entry told label (figure_of step)
+abbrev pub rows_of : ℕ → Stage → Option ℕ → PStep → List ℕ → List ℕ → List Row
+rows_of number stage entry step told label = rows_with number stage entry told label (figure_of step)
 
 -- at most so many bytes of a text: of a longer one the first, and two full stops
 abbrev pub shortened : ℕ → List ℕ → List ℕ

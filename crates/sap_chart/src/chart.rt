@@ -1,15 +1,20 @@
 //! Charts, drawn row by row.
 ghost use Rattle.std.specs.Prelude.{◌≡◌, ◌+◌, ◌++◌, [], IfOk, OnOk, codes, fold, length};
+ghost use Rattle.sap_roles.specs.Casts.{IsScript, role_count};
+ghost use Rattle.sap_tell.specs.Stages.{Stage};
+ghost use Rattle.sap_teller.specs.Telling.{IsOnStage};
 ghost use Rattle.sap_terms.specs.Trace.{shown};
 ghost use Rattle.sap_chart.specs.ChartText.{head_text, heads_text, rows_text, start_text, with_lifeline};
 ghost use Rattle.sap_chart.specs.Rows.{rows_with};
-ghost use Rattle.sap_chart.specs.code.Drawing.{drawn_text, threads_in};
+ghost use Rattle.sap_chart.specs.code.Drawing.{drawn_text, nobody, threads_in};
 
 use crate::figure::Figure;
 use crate::labels::{across, down, push_numbered};
 use crate::lifelines::{add_threads, push_head, push_heads};
 use crate::rows::push_row;
 use indexmap::IndexMap;
+use sap_players::RoleNumbers;
+use sap_roles::Script;
 use sap_tell::ThreadPaths;
 use sap_terms::{FactList, Mem, Trace};
 use sap_text::Text;
@@ -69,7 +74,7 @@ impl Drawing {
     ) -> Result<(), Mem>
         ensures lifelines { OnOk result (self.new.lifelines ≡ self.old.lifelines) }
         ensures body { OnOk result (self.new.body ≡ self.old.body ++ rows_text self.old.lifelines.entries self.old.rows
-            (rows_with number [] entry told.now label.now (Some figure))) }
+            (rows_with number nobody entry told.now label.now (Some figure))) }
         ensures rows { OnOk result (self.new.rows ≡ self.old.rows + 1) }
         ensures trace { OnOk result (self.new.trace ≡ self.old.trace) }
     {
@@ -119,8 +124,8 @@ impl Drawing {
     ) -> Result<(), Mem>
         ensures lifelines { OnOk result (self.new.lifelines ≡ self.old.lifelines) }
         ensures body { OnOk result (self.new.body ≡ self.old.body ++ rows_text self.old.lifelines.entries self.old.rows
-            (rows_with number [] entry told.now apart.now figure)) }
-        ensures rows { OnOk result (self.new.rows ≡ self.old.rows + length (rows_with number [] entry told.now apart.now figure)) }
+            (rows_with number nobody entry told.now apart.now figure)) }
+        ensures rows { OnOk result (self.new.rows ≡ self.old.rows + length (rows_with number nobody entry told.now apart.now figure)) }
         ensures trace { OnOk result (self.new.trace ≡ self.old.trace ++ shown label) }
     {
         match figure {
@@ -134,16 +139,21 @@ impl Drawing {
     pub(crate) fn add_threads(
         &mut self,
         alloc: Global,
+        script: &Script,
+        numbers: &RoleNumbers,
         paths: &ThreadPaths,
         figure: Option<Figure>,
     ) -> Result<(), Mem>
-        ensures lifelines { OnOk result (self.new.lifelines.entries
-            ≡ fold with_lifeline self.old.lifelines.entries (threads_in paths.now figure)) }
+        requires script { IsScript script.now }
+        requires count { length numbers.now ≡ role_count script.now }
+        ensures lifelines { (s : Stage) → IsOnStage script.now numbers.now paths.now s
+            → OnOk result (self.new.lifelines.entries
+            ≡ fold with_lifeline self.old.lifelines.entries (threads_in s figure)) }
         ensures body { OnOk result (self.new.body ≡ self.old.body) }
         ensures rows { OnOk result (self.new.rows ≡ self.old.rows) }
         ensures trace { OnOk result (self.new.trace ≡ self.old.trace) }
     {
-        add_threads(alloc, &mut self.lifelines, paths, figure)
+        add_threads(alloc, &mut self.lifelines, script, numbers, paths, figure)
     }
 
     /// Puts the whole chart last.

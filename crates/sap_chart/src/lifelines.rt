@@ -1,23 +1,39 @@
 //! The threads that are drawn, by their columns.
-ghost use Rattle.std.specs.Prelude.{◌≡◌, ◌<◌, ◌^◌, ◌++◌, IfOk, OnOk, codes, fold, map};
+ghost use Rattle.std.specs.Prelude.{◌≡◌, ◌<◌, ◌≤◌, ◌^◌, ◌++◌, IfOk, OnOk, codes, fold, length, map};
+ghost use Rattle.std.specs.List.{prefix_len};
+ghost use Rattle.sap_roles.specs.Casts.{IsScript, role_count};
+ghost use Rattle.sap_tell.specs.Stages.{Stage};
 ghost use Rattle.sap_tell.specs.ToldText.{thread_text};
-ghost use Rattle.sap_chart.specs.ChartText.{across, across_to, column_of, head_text, heads_text, with_lifeline};
+ghost use Rattle.sap_teller.specs.Telling.{IsOnStage};
+ghost use Rattle.sap_chart.specs.ChartText.{across, across_to, column_of, head_of, head_text, heads_text, opens_none, with_lifeline};
 ghost use Rattle.sap_chart.specs.code.Drawing.{IsHeadPushed, threads_in};
 
 use crate::figure::Figure;
 use crate::labels::{across, push_numbered, push_spelled, shortened};
 use indexmap::IndexMap;
+use sap_players::RoleNumbers;
+use sap_roles::Script;
 use sap_tell::{ThreadPaths, push_thread};
+use sap_teller::part_of;
 use sap_terms::Mem;
 use sap_text::Text;
 use std::alloc::Global;
 
-// The name of a thread, by where it stands.
-fn name_of(alloc: Global, paths: &ThreadPaths, t: u64) -> Result<Text, Mem>
-    ensures { IfOk result (λ name. name ≡ thread_text paths.now t) }
+// What a thread is called, and where it stands.
+fn name_of(
+    alloc: Global,
+    script: &Script,
+    numbers: &RoleNumbers,
+    paths: &ThreadPaths,
+    t: u64,
+) -> Result<Text, Mem>
+    requires script { IsScript script.now }
+    requires count { length numbers.now ≡ role_count script.now }
+    ensures { (s : Stage) → IsOnStage script.now numbers.now paths.now s → IfOk result (λ name. name ≡ thread_text s t) }
 {
     let mut name = Text::new(alloc);
-    push_thread(&mut name, paths, t)?;
+    let part = part_of(script, numbers, paths.digits(t), t);
+    push_thread(&mut name, part, paths, t)?;
     Ok(name)
 }
 
@@ -25,15 +41,20 @@ fn name_of(alloc: Global, paths: &ThreadPaths, t: u64) -> Result<Text, Mem>
 fn add(
     alloc: Global,
     lifelines: &mut IndexMap<u64, Text>,
+    script: &Script,
+    numbers: &RoleNumbers,
     paths: &ThreadPaths,
     t: u64,
 ) -> Result<(), Mem>
-    ensures { OnOk result (lifelines.new.entries ≡ with_lifeline lifelines.old.entries (t, thread_text paths.now t)) }
+    requires script { IsScript script.now }
+    requires count { length numbers.now ≡ role_count script.now }
+    ensures { (s : Stage) → IsOnStage script.now numbers.now paths.now s
+        → OnOk result (lifelines.new.entries ≡ with_lifeline lifelines.old.entries (t, thread_text s t)) }
 {
     match lifelines.get_index_of(&t) {
         Some(_) => Ok(()),
         None => {
-            let name = name_of(alloc, paths, t)?;
+            let name = name_of(alloc, script, numbers, paths, t)?;
             lifelines.insert(t, name)?;
             Ok(())
         }
@@ -44,32 +65,48 @@ fn add(
 fn add_both(
     alloc: Global,
     lifelines: &mut IndexMap<u64, Text>,
+    script: &Script,
+    numbers: &RoleNumbers,
     paths: &ThreadPaths,
     s: u64,
     t: u64,
 ) -> Result<(), Mem>
-    ensures { OnOk result (lifelines.new.entries
-        ≡ with_lifeline (with_lifeline lifelines.old.entries (s, thread_text paths.now s)) (t, thread_text paths.now t)) }
+    requires script { IsScript script.now }
+    requires count { length numbers.now ≡ role_count script.now }
+    ensures { (a : Stage) → IsOnStage script.now numbers.now paths.now a
+        → OnOk result (lifelines.new.entries
+        ≡ with_lifeline (with_lifeline lifelines.old.entries (s, thread_text a s)) (t, thread_text a t)) }
 {
-    add(alloc, lifelines, paths, s)?;
-    add(alloc, lifelines, paths, t)
+    add(alloc, lifelines, script, numbers, paths, s)?;
+    add(alloc, lifelines, script, numbers, paths, t)
 }
 
-/// Gives each thread of a figure a lifeline, unless it has one, named by where it stands.
+/// Gives each thread of a figure a lifeline, unless it has one, named by what it is called and where it stands.
 pub(crate) fn add_threads(
     alloc: Global,
     lifelines: &mut IndexMap<u64, Text>,
+    script: &Script,
+    numbers: &RoleNumbers,
     paths: &ThreadPaths,
     figure: Option<Figure>,
 ) -> Result<(), Mem>
-    ensures { OnOk result (lifelines.new.entries ≡ fold with_lifeline lifelines.old.entries (threads_in paths.now figure)) }
+    requires script { IsScript script.now }
+    requires count { length numbers.now ≡ role_count script.now }
+    ensures { (s : Stage) → IsOnStage script.now numbers.now paths.now s
+        → OnOk result (lifelines.new.entries ≡ fold with_lifeline lifelines.old.entries (threads_in s figure)) }
 {
     match figure {
         None | Some(Figure::Makes) => Ok(()),
-        Some(Figure::Meets(s, t)) => add_both(alloc, lifelines, paths, s, t),
-        Some(Figure::Puts(t)) | Some(Figure::Takes(t)) => add(alloc, lifelines, paths, t),
-        Some(Figure::Shows(t)) | Some(Figure::Stores(t)) => add(alloc, lifelines, paths, t),
-        Some(Figure::Locks(t)) | Some(Figure::Does(t)) => add(alloc, lifelines, paths, t),
+        Some(Figure::Meets(s, t)) => add_both(alloc, lifelines, script, numbers, paths, s, t),
+        Some(Figure::Puts(t)) | Some(Figure::Takes(t)) => add(
+            alloc, lifelines, script, numbers, paths, t,
+        ),
+        Some(Figure::Shows(t)) | Some(Figure::Stores(t)) => add(
+            alloc, lifelines, script, numbers, paths, t,
+        ),
+        Some(Figure::Locks(t)) | Some(Figure::Does(t)) => add(
+            alloc, lifelines, script, numbers, paths, t,
+        ),
     }
 }
 
@@ -91,12 +128,32 @@ pub(crate) fn across_to(lifelines: &IndexMap<u64, Text>, t: u64) -> Result<u64, 
     across(column(lifelines, t))
 }
 
-/// A lifeline with its name above it.
+// How many bytes stand before the first parenthesis.
+fn opening(name: &[u8]) -> usize
+    ensures is { result ≡ prefix_len opens_none name.now }
+    ensures within { result ≤ length name.now }
+{
+    name.iter().take_while(|b| **b != b'(').count()
+}
+
+// What stands of a name before a blank and a parenthesis, or all of it.
+fn head_of(name: &[u8]) -> &[u8]
+    ensures { result.now ≡ head_of name.now }
+{
+    let count = opening(name);
+    if count < name.len() {
+        &name[..count.saturating_sub(1)]
+    } else {
+        name
+    }
+}
+
+/// A lifeline with the head of its name above it.
 pub(crate) fn push_head(alloc: Global, text: &mut Text, column: u64, name: &[u8]) -> Result<(), Mem>
     ensures { OnOk result (text.new ≡ text.old ++ head_text column name.now) }
 {
     let x = across(column)?;
-    let short = shortened(alloc, 18, name)?;
+    let short = shortened(alloc, 18, head_of(name))?;
     push_numbered(text, b"<g transform='translate(", x)?;
     push_spelled(text, b",0)'><title>", name)?;
     push_spelled(

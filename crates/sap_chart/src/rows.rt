@@ -1,6 +1,7 @@
 //! Rows of a chart.
 ghost use Rattle.std.specs.Prelude.{◌≡◌, ◌≤◌, ◌++◌, [], OnOk, codes, decimal, length};
 ghost use Rattle.sap_chart.specs.ChartText.{across_to, box_text, entry_text, figure_text, margin_text, mark_text, row_text, who_text};
+ghost use Rattle.sap_chart.specs.code.Drawing.{nobody};
 ghost use Rattle.sap_chart.specs.declared.figure.Figure.TheVariants as figure;
 
 use crate::figure::Figure;
@@ -197,7 +198,7 @@ pub(crate) fn push_row(
     label: &[u8],
 ) -> Result<(), Mem>
     ensures { OnOk result (text.new ≡ text.old ++ row_text lifelines.now.entries k
-        (record { number = number; paths = []; figure = figure; entry = entry; told = told.now; label = label.now })) }
+        (record { number = number; stage = nobody; figure = figure; entry = entry; told = told.now; label = label.now })) }
 {
     let short = shortened(alloc, 58, label)?;
     let y = down(k)?;

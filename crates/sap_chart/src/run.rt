@@ -5,21 +5,27 @@ ghost use Rattle.sap_deduce.specs.Entries.{terms_of};
 ghost use Rattle.sap_lines.specs.Answers.{MatchesExactly};
 ghost use Rattle.sap_lines.specs.declared.fault.PFault.{PFault as Fault};
 ghost use Rattle.sap_lines.specs.FirstRefused.{IsFirstRefusedOfProcess};
+ghost use Rattle.sap_players.specs.Casts.{Cast};
 ghost use Rattle.sap_process.specs.Proc.{proc};
+ghost use Rattle.sap_roles.specs.Casts.{IsCastOfScript, IsScript, role_count};
+ghost use Rattle.sap_tell.specs.Stages.{Stage};
+ghost use Rattle.sap_teller.specs.Telling.{IsOnStage};
 ghost use Rattle.sap_process.specs.Ready.{IsReady};
 ghost use Rattle.sap_terms.specs.Signature.{HoldsBuiltins};
 ghost use Rattle.sap_lines.specs.declared.at.At.TheVariants.{Step as StepOf};
 ghost use Rattle.sap_chart.specs.Chart.{IsCharted};
-ghost use Rattle.sap_chart.specs.code.Drawing.{IsNextDrawn};
+ghost use Rattle.sap_chart.specs.code.Drawing.{IsNextDrawn, IsNextPlayed};
 
 use crate::chart::Drawing;
 use crate::figure::figure_of;
 use sap_calc::Config;
 use sap_lines::{At, at_line, limit_excludes, runs_match_exactly};
+use sap_players::RoleNumbers;
 use sap_process::Process;
+use sap_roles::{Script, casts_are_one};
 use sap_runs::{PStep, PSteps};
 use sap_tell::legal_runs_are_told;
-use sap_teller::{Along, started, tell_line_apart};
+use sap_teller::{Along, note_players, started, tell_line_apart, told_actor};
 use sap_terms::{Mem, Signature, Trace};
 use sap_text::Text;
 use std::alloc::Global;
@@ -31,20 +37,25 @@ fn new_entry(before: u64, after: u64) -> Option<u64>
     if before < after { Some(before) } else { None }
 }
 
-// Does one line, and draws it.
+// Does one line, whose threads are noted, and draws it.
 fn draw_next(
     alloc: Global,
     sig: &Signature,
+    script: &Script,
     config: &mut Config,
     at: &mut Along,
+    numbers: &RoleNumbers,
     step: &PStep,
     drawing: &mut Drawing,
 ) -> Result<(), At>
+    requires script { IsScript script.now }
+    requires count { length numbers.now ≡ role_count script.now }
     requires sig { config.old.sig ≡ sig.now }
     requires exact { MatchesExactly sig.now (configuration config.old) (terms_of config.old.known) }
     requires facts { at.old.facts ≡ length config.old.facts }
     requires lines { at.old.lines < u64.MAX }
-    ensures ok { OnOk result (IsNextDrawn config.old config.new at.old at.new drawing.old drawing.new step.now) }
+    ensures ok { OnOk result ((s : Stage) → IsOnStage script.now numbers.now at.old.paths s
+        → IsNextDrawn s config.old config.new at.old at.new drawing.old drawing.new step.now) }
     ensures refused { (n : ℕ) (fault : Fault) → result ≡ Err (StepOf n fault)
         → IsDeniedAt config.old step.now (at.old.lines + 1) n fault }
 {
@@ -53,8 +64,18 @@ fn draw_next(
     let known = config.entry_count();
     let mut told = Text::new(alloc);
     let mut apart = Text::new(alloc);
-    drawing.add_threads(alloc, &at.paths, figure)?;
-    match tell_line_apart(alloc, sig, config, at, step, &mut told, &mut apart) {
+    let who = told_actor(alloc, script, numbers, &at.paths, step)?;
+    drawing.add_threads(alloc, script, numbers, &at.paths, figure)?;
+    match tell_line_apart(
+        alloc,
+        sig,
+        config,
+        at,
+        who.as_bytes(),
+        step,
+        &mut told,
+        &mut apart,
+    ) {
         Err(fault) => Err(at_line(number, fault)),
         Ok(label) => {
             let entry = new_entry(known, config.entry_count());
@@ -72,19 +93,48 @@ fn draw_next(
     }
 }
 
-/// Puts the chart of a run of a process last, each line done once; gives what the run shows. `Step` names the first illegal line, and
+// Notes the threads of one line, does it, and draws it.
+fn draw_played(
+    alloc: Global,
+    sig: &Signature,
+    script: &Script,
+    config: &mut Config,
+    at: &mut Along,
+    numbers: &mut RoleNumbers,
+    step: &PStep,
+    drawing: &mut Drawing,
+) -> Result<(), At>
+    requires script { IsScript script.now }
+    requires count { length numbers.old ≡ role_count script.now }
+    requires sig { config.old.sig ≡ sig.now }
+    requires exact { MatchesExactly sig.now (configuration config.old) (terms_of config.old.known) }
+    requires facts { at.old.facts ≡ length config.old.facts }
+    requires lines { at.old.lines < u64.MAX }
+    ensures ok { OnOk result (IsNextPlayed script.now config.old config.new at.old at.new numbers.old numbers.new drawing.old drawing.new step.now) }
+    ensures refused { (n : ℕ) (fault : Fault) → result ≡ Err (StepOf n fault)
+        → IsDeniedAt config.old step.now (at.old.lines + 1) n fault }
+{
+    note_players(script, numbers, &at.paths, step)?;
+    draw_next(alloc, sig, script, config, at, numbers, step, drawing)
+}
+
+/// Puts the chart of a run of a process last, each line done once, threads by their roles in what is written of it; gives what the run
+/// shows. `Step` names the first illegal line, and
 /// then the text is as it was. Its time goes with the process's heads, the lines and the text. It recurses as deep as the process and
 /// the terms of process and run.
 pub fn chart_run(
     alloc: Global,
     sig: &Signature,
     p: &Process,
+    script: &Script,
     run: &PSteps,
     text: &mut Text,
 ) -> Result<Trace, At>
     requires builtins { HoldsBuiltins sig.now }
     requires ready { IsReady sig.now (proc p.now) }
-    ensures charted { IfOk result (λ trace. IsCharted sig.now (proc p.now) run.now trace text.old text.new) }
+    requires script { IsScript script.now }
+    ensures charted { (cast : Cast) → IsCastOfScript script.now cast
+        → IfOk result (λ trace. IsCharted sig.now (proc p.now) cast run.now trace text.old text.new) }
     ensures refused { (n : ℕ) (fault : Fault) → result ≡ Err (StepOf n fault)
         → IsFirstRefusedOfProcess sig.now (proc p.now) run.now n fault }
     ensures kept { (n : ℕ) (fault : Fault) → result ≡ Err (StepOf n fault) → text.new ≡ text.old }
@@ -92,11 +142,22 @@ pub fn chart_run(
     limit_excludes();
     runs_match_exactly();
     legal_runs_are_told();
+    casts_are_one();
     let mut config = started(alloc, sig, p)?;
     let mut at = Along::start(alloc)?;
+    let mut numbers = RoleNumbers::new(alloc, script.len())?;
     let mut drawing = Drawing::new(alloc);
     for k in 0..run.len() {
-        draw_next(alloc, sig, &mut config, &mut at, run.at(k), &mut drawing)?;
+        draw_played(
+            alloc,
+            sig,
+            script,
+            &mut config,
+            &mut at,
+            &mut numbers,
+            run.at(k),
+            &mut drawing,
+        )?;
     }
     drawing.push(alloc, text)?;
     Ok(drawing.trace)

@@ -47,12 +47,12 @@ module _ (laws : Laws) (k : Kinds) (z : List ℕ) (f : FileContent) (runnable : 
       (λ short. opposite_is_read laws.texts k z (rules_of f.process) rule_lines c.full lines answer c.turns numbered short)
 
   -- what a task writes of a run that was read says what it should
-  pub written_says : (task : Task) (r : Run) (text : List ℕ) → IsRunAnswer k z (Ok r) → Writes task f r text → Says task f r text
-  written_says ToRules r text answer w = converted_is_opposite r text answer w
-  written_says ToProcess r text answer w = converted_is_opposite r text answer w
-  written_says Judge r text answer w = w
-  written_says Tell r text answer w = told_says laws.told laws.alike f r text runnable w
-  written_says Chart r text answer w = drawn_says laws.told f r text w
+  pub written_says : (task : Task) (bytes : List ℕ) (r : Run) (text : List ℕ) → IsRunAnswer k z (Ok r) → Writes task bytes f r text → Says task bytes f r text
+  written_says ToRules bytes r text answer w = converted_is_opposite r text answer w
+  written_says ToProcess bytes r text answer w = converted_is_opposite r text answer w
+  written_says Judge bytes r text answer w = w
+  written_says Tell bytes r text answer w = told_says laws.told laws.alike bytes f r text runnable w
+  written_says Chart bytes r text answer w = drawn_says laws.told bytes f r text w
 
 -- what is converted is seen
 converted_is_seen : (f : FileContent) (r : Run) (text : List ℕ) → IsConvertedText f r text → (tr : Trace) × IsSeen f r tr
@@ -60,9 +60,9 @@ converted_is_seen f _ _ (to_rules rule_lines c numbered) = (c.trace, of_process 
 converted_is_seen f _ _ (to_process lines c numbered) = (hide c.full, of_rules c.state c.full c.counted)
 
 -- so is what any task writes of
-pub written_is_seen : telling.Laws → (task : Task) (f : FileContent) (r : Run) (text : List ℕ) → Writes task f r text → (tr : Trace) × IsSeen f r tr
-written_is_seen law ToRules f r text w = converted_is_seen f r text w
-written_is_seen law ToProcess f r text w = converted_is_seen f r text w
-written_is_seen law Judge f r text w = (w.trace, w.seen)
-written_is_seen law Tell f r text w = told_is_seen law f r text w
-written_is_seen law Chart f r text w = drawn_is_seen law f r text w
+pub written_is_seen : telling.Laws → (task : Task) (bytes : List ℕ) (f : FileContent) (r : Run) (text : List ℕ) → Writes task bytes f r text → (tr : Trace) × IsSeen f r tr
+written_is_seen law ToRules bytes f r text w = converted_is_seen f r text w
+written_is_seen law ToProcess bytes f r text w = converted_is_seen f r text w
+written_is_seen law Judge bytes f r text w = (w.trace, w.seen)
+written_is_seen law Tell bytes f r text w = told_is_seen law bytes f r text w
+written_is_seen law Chart bytes f r text w = drawn_is_seen law bytes f r text w

@@ -33,8 +33,8 @@ module _ (f : FileContent) (rule_lines : List RStep) where
         let u = of_lines other v in
         t.layout ∙ ap process_run_text (one t.lines u.lines t.converted u.converted) ∙ sym u.layout
 
-    pub told_lines : (text other : List ℕ) → IsOppositeText f (run.Rules rule_lines) text → (t : IsToldOf f (run.Rules rule_lines) other) → text ≡ process_run_text t.lines
-    told_lines text other w t = these_lines text t.lines w t.of_run
+    pub told_lines : (bytes text other : List ℕ) → IsOppositeText f (run.Rules rule_lines) text → (t : IsToldOf bytes f (run.Rules rule_lines) other) → text ≡ process_run_text t.lines
+    told_lines bytes text other w t = these_lines text t.lines w t.of_run
 
-    pub drawn_lines : (text other : List ℕ) → IsOppositeText f (run.Rules rule_lines) text → (t : IsDrawnOf f (run.Rules rule_lines) other) → text ≡ process_run_text t.lines
-    drawn_lines text other w t = these_lines text t.lines w t.of_run
+    pub drawn_lines : (bytes text other : List ℕ) → IsOppositeText f (run.Rules rule_lines) text → (t : IsDrawnOf bytes f (run.Rules rule_lines) other) → text ≡ process_run_text t.lines
+    drawn_lines bytes text other w t = these_lines text t.lines w t.of_run

@@ -3,7 +3,6 @@ use Rattle.std.proofs.Common.{◌≡◌, ℕ, List, Result, Ok, Err, refl}
 use Rattle.sap_back.specs.Converted as back
 use Rattle.sap_back.specs.declared.back_at.BackAt.{BackAt}
 use Rattle.sap_back.specs.declared.back_at.BackAt.TheVariants as rules
-use Rattle.sap_forward.specs.Converted as forward
 use Rattle.sap_lines.specs.declared.at.At.{At}
 use Rattle.sap_lines.specs.declared.at.At.TheVariants as process
 use Rattle.sap_lines.specs.declared.fault.PFault.{PFault}

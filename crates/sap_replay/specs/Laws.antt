@@ -33,10 +33,10 @@ use Rattle.sap_replay.specs.declared.task.Task.{Task}
 -- and of none that isn't legal it writes something; and what is written of a run as JSON, or of JSON as a run. Lines that fill a short
 -- run that was read are what their text is read as, where they aren't more than a run may have.
 pub record TextsMeanWhatTheySay : Type 0 where
-  pub written : (task : Task) (f : FileContent) (kinds : Kinds) (z : List ℕ) (r : Run)
+  pub written : (task : Task) (bytes : List ℕ) (f : FileContent) (kinds : Kinds) (z : List ℕ) (r : Run)
       (text : List ℕ) → IsRunnable f → IsPrintableFile MOST_FILE_NAME_BYTES MOST_NEW_NAME_BYTES f
-      → IsRunAnswer kinds z (Ok r) → Writes task f r text → Says task f r text
-  pub legal : (task : Task) (f : FileContent) (r : Run) (text : List ℕ) → Writes task f r text
+      → IsRunAnswer kinds z (Ok r) → Writes task bytes f r text → Says task bytes f r text
+  pub legal : (task : Task) (bytes : List ℕ) (f : FileContent) (r : Run) (text : List ℕ) → Writes task bytes f r text
       → (tr : Trace) × IsSeen f r tr
   pub as_json : (z text : List ℕ) → IsJsonOf z text → IsReadAsJson z text
   pub of_json : (bytes text : List ℕ) → IsRunOfJson bytes text → IsReadAsRun bytes text

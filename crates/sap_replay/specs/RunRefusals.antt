@@ -1,7 +1,6 @@
 -- Why a run is refused.
 use Rattle.std.specs.Prelude.{◌≡◌, ◌+◌, ℕ, List, ◌∷◌, ◌++◌, length, Ok, Err}
 use Rattle.sap_back.specs.Converted as back
-use Rattle.sap_forward.specs.Converted as forward
 use Rattle.sap_lines.specs.FirstRefused.{IsFirstRefusedOfProcess}
 use Rattle.sap_lines.specs.declared.fault.PFault.{PFault}
 use Rattle.sap_read.specs.Files.{FileContent}

@@ -17,18 +17,18 @@ kinds_of Judge = Either
 kinds_of Tell = Either
 kinds_of Chart = Either
 
--- the text that a task writes of a run of the file
-abbrev pub Writes : Task → FileContent → Run → List ℕ → Type 0
-Writes ToRules told r text = IsConvertedText told r text
-Writes ToProcess told r text = IsConvertedText told r text
-Writes Judge told r text = IsJudgedText told r text
-Writes Tell told r text = IsTextOfLines told (IsToldAndJudged told) r text
-Writes Chart told r text = IsTextOfLines told (IsDrawn told) r text
+-- the text that a task writes of a run of the file of these bytes
+abbrev pub Writes : Task → List ℕ → FileContent → Run → List ℕ → Type 0
+Writes ToRules bytes told r text = IsConvertedText told r text
+Writes ToProcess bytes told r text = IsConvertedText told r text
+Writes Judge bytes told r text = IsJudgedText told r text
+Writes Tell bytes told r text = IsTextOfLines bytes told (IsToldAndJudged told) r text
+Writes Chart bytes told r text = IsTextOfLines bytes told (IsDrawn told) r text
 
 -- what this text means
-abbrev pub Says : Task → FileContent → Run → List ℕ → Type 0
-Says ToRules told r text = IsOppositeText told r text
-Says ToProcess told r text = IsOppositeText told r text
-Says Judge told r text = IsJudgedText told r text
-Says Tell told r text = IsToldOf told r text
-Says Chart told r text = IsDrawnOf told r text
+abbrev pub Says : Task → List ℕ → FileContent → Run → List ℕ → Type 0
+Says ToRules bytes told r text = IsOppositeText told r text
+Says ToProcess bytes told r text = IsOppositeText told r text
+Says Judge bytes told r text = IsJudgedText told r text
+Says Tell bytes told r text = IsToldOf bytes told r text
+Says Chart bytes told r text = IsDrawnOf bytes told r text

@@ -118,11 +118,11 @@ pub fn one_run_is_written_told_and_drawn()
     ensures written { (f : FileContent) (rule_lines : List RStep) (text other : List ℕ) → IsRunnable f
         → IsOppositeText f (runs.Rules rule_lines) text → IsOppositeText f (runs.Rules rule_lines) other
         → text ≡ other }
-    ensures told { (f : FileContent) (rule_lines : List RStep) (text other : List ℕ) → IsRunnable f
-        → IsOppositeText f (runs.Rules rule_lines) text → (told : IsToldOf f (runs.Rules rule_lines) other)
+    ensures told { (bytes : List ℕ) (f : FileContent) (rule_lines : List RStep) (text other : List ℕ) → IsRunnable f
+        → IsOppositeText f (runs.Rules rule_lines) text → (told : IsToldOf bytes f (runs.Rules rule_lines) other)
         → text ≡ process_run_text told.lines }
-    ensures drawn { (f : FileContent) (rule_lines : List RStep) (text other : List ℕ) → IsRunnable f
-        → IsOppositeText f (runs.Rules rule_lines) text → (drawn : IsDrawnOf f (runs.Rules rule_lines) other)
+    ensures drawn { (bytes : List ℕ) (f : FileContent) (rule_lines : List RStep) (text other : List ℕ) → IsRunnable f
+        → IsOppositeText f (runs.Rules rule_lines) text → (drawn : IsDrawnOf bytes f (runs.Rules rule_lines) other)
         → text ≡ process_run_text drawn.lines }
 {
     one_converted_run();

@@ -28,29 +28,36 @@ use sap_terms::{Mem, Trace};
 use sap_text::Text;
 use std::alloc::Global;
 
-/// What the task writes of what bytes are read as, or the line that refuses them.
+/// What the task writes of what bytes are read as, of the file of these bytes, or the line that refuses them.
 pub fn replayed(
     alloc: Global,
     task: Task,
     file: &File,
+    bytes: &[u8],
     answer: &Result<Run, RunRefusal>,
 ) -> Result<Text, Refusal>
     requires { IsRunnable (told_by file.now) }
     ensures given { (z : List ℕ) → IsRunAnswer (kinds_of task) z answer.now
-        → IfOk result (λ text. (r : AnyRun) × IsRunAnswer (kinds_of task) z (Ok r) × Writes task (told_by file.now) r text) }
+        → IfOk result (λ text. (r : AnyRun) × IsRunAnswer (kinds_of task) z (Ok r) × Writes task bytes.now (told_by file.now) r text) }
     ensures refused { (z line : List ℕ) → IsRunAnswer (kinds_of task) z answer.now
         → IsErrOf result (refusals.Told line) → IsRunRefusal (kinds_of task) (IsIllegal (told_by file.now)) z line }
 {
     match answer {
-        Ok(run) => text_of_run(alloc, task, file, run),
+        Ok(run) => text_of_run(alloc, task, file, bytes, run),
         Err(refusal) => Err(told(no_run_line(alloc, *refusal))),
     }
 }
 
 /// What the task writes of a run.
-fn text_of_run(alloc: Global, task: Task, file: &File, run: &Run) -> Result<Text, Refusal>
+fn text_of_run(
+    alloc: Global,
+    task: Task,
+    file: &File,
+    bytes: &[u8],
+    run: &Run,
+) -> Result<Text, Refusal>
     requires { IsRunnable (told_by file.now) }
-    ensures given { IfOk result (λ text. Writes task (told_by file.now) run.now text) }
+    ensures given { IfOk result (λ text. Writes task bytes.now (told_by file.now) run.now text) }
     ensures refused { (line : List ℕ) → IsErrOf result (refusals.Told line)
         → IsLineOf (IsIllegal (told_by file.now) run.now) line }
 {
@@ -58,8 +65,8 @@ fn text_of_run(alloc: Global, task: Task, file: &File, run: &Run) -> Result<Text
         Task::ToRules => converted(alloc, file, run),
         Task::ToProcess => converted(alloc, file, run),
         Task::Judge => judged(alloc, file, run),
-        Task::Tell => told_run(alloc, file, run),
-        Task::Chart => drawn_run(alloc, file, run),
+        Task::Tell => told_run(alloc, file, bytes, run),
+        Task::Chart => drawn_run(alloc, file, bytes, run),
     }
 }
 

@@ -1,7 +1,10 @@
 //! Runs that are told or drawn, or the line that refuses them.
 
 ghost use Rattle.std.specs.Prelude.{ℕ, List, IfOk, IsErrOf};
+ghost use Rattle.sap_players.specs.Casts.{Cast};
 ghost use Rattle.sap_read.specs.Files.{IsRunnable, told_by};
+ghost use Rattle.sap_replay.specs.FileRoles.{HasCast};
+ghost use Rattle.sap_roles.specs.Casts.{IsCastOfScript, IsScript};
 ghost use Rattle.sap_answer.specs.declared.refusal.Refusal.TheVariants as refusals;
 ghost use Rattle.sap_run_texts.specs.declared.run.Run.TheVariants as runs;
 ghost use Rattle.sap_runs.specs.declared.process_step.PStep.{PStep};
@@ -11,11 +14,13 @@ ghost use Rattle.sap_replay.specs.ToldRuns.{IsDrawn, IsTextOfLines, IsToldAndJud
 
 use crate::laws::{closed_files, process_lines, seen_traces_are_messages};
 use crate::replay::{line_at, process_of};
+use crate::script::script_of;
 use crate::verdicts::verdicts;
 use sap_chart::chart_run;
 use sap_locks::annotations_are_ready;
 use sap_read::File;
 use sap_refusals::{Refusal, told};
+use sap_roles::Script;
 use sap_run_texts::Run;
 use sap_runs::PSteps;
 use sap_tell::{legal_runs_are_told, push_names_behind};
@@ -24,31 +29,46 @@ use sap_terms::Mem;
 use sap_text::Text;
 use std::alloc::Global;
 
-/// What is told of a run of the process, or of the one that a run of rules is converted to, the verdicts on what it shows, and what
-/// its names are called.
-pub fn told_run(alloc: Global, file: &File, run: &Run) -> Result<Text, Refusal>
+/// What is told of a run of the process, or of the one that a run of rules is converted to, threads by the roles of the file of these
+/// bytes, the verdicts on what it shows, and what its names are called.
+pub fn told_run(alloc: Global, file: &File, bytes: &[u8], run: &Run) -> Result<Text, Refusal>
     requires { IsRunnable (told_by file.now) }
-    ensures given { IfOk result (λ text. IsTextOfLines (told_by file.now) (IsToldAndJudged (told_by file.now)) run.now text) }
+    ensures given { IfOk result (λ text. IsTextOfLines bytes.now (told_by file.now) (IsToldAndJudged (told_by file.now)) run.now text) }
+    ensures refused { (line : List ℕ) → IsErrOf result (refusals.Told line)
+        → IsLineOf (IsIllegal (told_by file.now) run.now) line }
+{
+    let script = script_of(alloc, bytes)?;
+    told_by_roles(alloc, file, &script, run)
+}
+
+/// The same, by the roles of a script.
+fn told_by_roles(alloc: Global, file: &File, script: &Script, run: &Run) -> Result<Text, Refusal>
+    requires file { IsRunnable (told_by file.now) }
+    requires script { IsScript script.now }
+    ensures given { (bytes : List ℕ) (cast : Cast) → IsCastOfScript script.now cast → HasCast bytes cast
+        → IfOk result (λ text. IsTextOfLines bytes (told_by file.now) (IsToldAndJudged (told_by file.now)) run.now text) }
     ensures refused { (line : List ℕ) → IsErrOf result (refusals.Told line)
         → IsLineOf (IsIllegal (told_by file.now) run.now) line }
 {
     process_lines();
     annotations_are_ready();
     match run {
-        Run::Process(lines) => told_lines(alloc, file, lines),
-        Run::Rules(steps) => told_lines(alloc, file, &process_of(alloc, file, steps)?),
+        Run::Process(lines) => told_lines(alloc, file, script, lines),
+        Run::Rules(steps) => told_lines(alloc, file, script, &process_of(alloc, file, steps)?),
     }
 }
 
 /// What is told of a run of the process, the verdicts on what it shows, and what its names are called.
-fn told_lines(alloc: Global, file: &File, lines: &PSteps) -> Result<Text, Refusal>
-    requires { IsRunnable (told_by file.now) }
-    ensures given { IfOk result (λ text. IsToldAndJudged (told_by file.now) lines.now text) }
+fn told_lines(alloc: Global, file: &File, script: &Script, lines: &PSteps) -> Result<Text, Refusal>
+    requires file { IsRunnable (told_by file.now) }
+    requires script { IsScript script.now }
+    ensures given { (cast : Cast) → IsCastOfScript script.now cast
+        → IfOk result (λ text. IsToldAndJudged (told_by file.now) cast lines.now text) }
     ensures refused { (line : List ℕ) → IsErrOf result (refusals.Told line)
         → IsLineOf (IsIllegal (told_by file.now) (runs.Process lines.now)) line }
 {
     annotations_are_ready();
-    match tell_run(alloc, &file.signature, &file.process, lines) {
+    match tell_run(alloc, &file.signature, &file.process, script, lines) {
         Ok(run) => Ok(with_verdicts(alloc, file, run)?),
         Err(why) => Err(told(line_at(alloc, &why))),
     }
@@ -57,8 +77,9 @@ fn told_lines(alloc: Global, file: &File, lines: &PSteps) -> Result<Text, Refusa
 /// What is told of a run, behind an empty line the verdicts on what it shows, and then what its names are called.
 fn with_verdicts(alloc: Global, file: &File, run: WholeRun) -> Result<Text, Mem>
     requires { IsRunnable (told_by file.now) }
-    ensures { (lines : List PStep) → IsToldAs (told_by file.now).signature (told_by file.now).process lines run.told.trace run.names run.told.text
-        → IfOk result (λ text. IsToldAndJudged (told_by file.now) lines text) }
+    ensures { (cast : Cast) (lines : List PStep)
+        → IsToldAs (told_by file.now).signature (told_by file.now).process cast lines run.told.trace run.names run.told.text
+        → IfOk result (λ text. IsToldAndJudged (told_by file.now) cast lines text) }
 {
     legal_runs_are_told();
     seen_traces_are_messages();
@@ -72,31 +93,53 @@ fn with_verdicts(alloc: Global, file: &File, run: WholeRun) -> Result<Text, Mem>
     Ok(text)
 }
 
-/// The chart of a run of the process, or of the one that a run of rules is converted to.
-pub fn drawn_run(alloc: Global, file: &File, run: &Run) -> Result<Text, Refusal>
+/// The chart of a run of the process, or of the one that a run of rules is converted to, threads by the roles of the file of these bytes.
+pub fn drawn_run(alloc: Global, file: &File, bytes: &[u8], run: &Run) -> Result<Text, Refusal>
     requires { IsRunnable (told_by file.now) }
-    ensures given { IfOk result (λ text. IsTextOfLines (told_by file.now) (IsDrawn (told_by file.now)) run.now text) }
+    ensures given { IfOk result (λ text. IsTextOfLines bytes.now (told_by file.now) (IsDrawn (told_by file.now)) run.now text) }
+    ensures refused { (line : List ℕ) → IsErrOf result (refusals.Told line)
+        → IsLineOf (IsIllegal (told_by file.now) run.now) line }
+{
+    let script = script_of(alloc, bytes)?;
+    drawn_by_roles(alloc, file, &script, run)
+}
+
+/// The same, by the roles of a script.
+fn drawn_by_roles(alloc: Global, file: &File, script: &Script, run: &Run) -> Result<Text, Refusal>
+    requires file { IsRunnable (told_by file.now) }
+    requires script { IsScript script.now }
+    ensures given { (bytes : List ℕ) (cast : Cast) → IsCastOfScript script.now cast → HasCast bytes cast
+        → IfOk result (λ text. IsTextOfLines bytes (told_by file.now) (IsDrawn (told_by file.now)) run.now text) }
     ensures refused { (line : List ℕ) → IsErrOf result (refusals.Told line)
         → IsLineOf (IsIllegal (told_by file.now) run.now) line }
 {
     process_lines();
     annotations_are_ready();
     match run {
-        Run::Process(lines) => drawn_lines(alloc, file, lines),
-        Run::Rules(steps) => drawn_lines(alloc, file, &process_of(alloc, file, steps)?),
+        Run::Process(lines) => drawn_lines(alloc, file, script, lines),
+        Run::Rules(steps) => drawn_lines(alloc, file, script, &process_of(alloc, file, steps)?),
     }
 }
 
 /// The chart of a run of the process.
-fn drawn_lines(alloc: Global, file: &File, lines: &PSteps) -> Result<Text, Refusal>
-    requires { IsRunnable (told_by file.now) }
-    ensures given { IfOk result (λ text. IsDrawn (told_by file.now) lines.now text) }
+fn drawn_lines(alloc: Global, file: &File, script: &Script, lines: &PSteps) -> Result<Text, Refusal>
+    requires file { IsRunnable (told_by file.now) }
+    requires script { IsScript script.now }
+    ensures given { (cast : Cast) → IsCastOfScript script.now cast
+        → IfOk result (λ text. IsDrawn (told_by file.now) cast lines.now text) }
     ensures refused { (line : List ℕ) → IsErrOf result (refusals.Told line)
         → IsLineOf (IsIllegal (told_by file.now) (runs.Process lines.now)) line }
 {
     annotations_are_ready();
     let mut text = Text::new(alloc);
-    match chart_run(alloc, &file.signature, &file.process, lines, &mut text) {
+    match chart_run(
+        alloc,
+        &file.signature,
+        &file.process,
+        script,
+        lines,
+        &mut text,
+    ) {
         Ok(_) => Ok(text),
         Err(why) => Err(told(line_at(alloc, &why))),
     }

@@ -15,6 +15,7 @@ use Rattle.sap_lines.specs.Answers.{MatchesExactly, ProcessLinesHaveOneOutcome, 
 use Rattle.sap_lines.specs.Lines as lines
 use Rattle.sap_lines.specs.Lines.{IsProcessLine, left_open}
 use Rattle.sap_lines.specs.Runs.{SmallProcessLinesAreLines, SmallProcessRunsAreLegal}
+use Rattle.sap_players.specs.Casts.{Cast}
 use Rattle.sap_process.specs.Action as action
 use Rattle.sap_process.specs.Action.{Action}
 use Rattle.sap_process.specs.Configuration.{Config, Runs, becomes, leaves}
@@ -50,7 +51,8 @@ use Rattle.sap_terms.specs.declared.var.Sort.TheVariants.{Msg}
 use Rattle.sap_terms.specs.declared.var.Var.{Var}
 use Rattle.sap_terms.proofs.PlainLaws.Items.{first_item, later_item, cons_cases, contains_got}
 use Rattle.sap_tell.specs.Draws.{draws_after}
-use Rattle.sap_tell.specs.ThreadPaths.{thread_paths}
+use Rattle.sap_tell.specs.Said.{applied_text, said_event, said_if, said_lookup, said_out, said_word, taken_on}
+use Rattle.sap_tell.specs.Stages.{stage_of}
 use Rattle.sap_tell.specs.Told as told
 use Rattle.sap_tell.specs.Told.{IsDoing, IsToldLine, IsToldRun, bound_texts}
 use Rattle.sap_tell.specs.ToldLaws.{LinesDoOneThing, RunsAreToldByOneText}
@@ -331,12 +333,17 @@ module _ (laws : Laws) (g : Sig) where
         let is = same_thread c t (act (action.new x) p) (act (action.new x') p') r s in
         let var : x ≡ x' = cc in
         same (ap (λ (v : Var). codes "new " ++ variable_text v) var) (ap (λ (v : Var). bound_text ds (v, fresh n) ∷ []) var)
-    one_doing _ _ _ d _ _ _ _ _ _ w e (IsDoing.outputs t n) (IsDoing.outputs t' n') =
-        let term = (same_from_push es es n n' e).1 in same (ap (λ (x : Tree). call_text (codes "out") (term_told ds x ∷ [])) term) refl
-    one_doing _ _ _ d _ _ _ _ _ _ w e (IsDoing.outputs_on {x = x} t k u h) (IsDoing.outputs_on {x = x'} t' k' u' h') =
+    one_doing _ _ _ d _ _ _ _ _ _ w e (IsDoing.outputs {m = m} {p = p} t n r) (IsDoing.outputs {m = m'} {p = p'} t' n' r') =
+        let is = same_thread c t (act (action.out m) p) (act (action.out m') p') r r' in
+        let stands : m ≡ m' = cc in
+        let term = (same_from_push es es n n' e).1 in same (λ i. said_out ds (stands i ∷ []) (term i ∷ [])) refl
+    one_doing _ _ _ d _ _ _ _ _ _ w e (IsDoing.outputs_on {m = m} {n = n} {x = x} {p = p} t k u r h) (IsDoing.outputs_on {m = m'} {n = n'} {x = x'} {p = p'} t' k' u' r' h') =
+        let is = same_thread c t (act (action.send m n) p) (act (action.send m' n') p') r r' in
+        let on : m ≡ m' = cc in
+        let stands : n ≡ n' = cc in
         let term = (same_from_push es es u u' e).1 in
         let channel = same_entry es k x x' h h' in
-        same (λ i. call_text (codes "out") (term_told ds (channel i) ∷ term_told ds (term i) ∷ [])) refl
+        same (λ i. said_out ds (on i ∷ stands i ∷ []) (channel i ∷ term i ∷ [])) refl
     one_doing _ _ _ d _ _ _ _ _ _ w e (IsDoing.inputs {n = n} {x = x} {p = p} t k σ r h f) (IsDoing.inputs {n = n'} {x = x'} {p = p'} t' k' σ' r' h' f') =
         let entry = same_entry es k x x' h h' in
         same (ap (λ (y : Tree). call_text (codes "in") (term_told ds y ∷ [])) entry) (input_texts t k σ σ' n n' x x' p p' r r' h h' f f')
@@ -346,29 +353,55 @@ module _ (laws : Laws) (g : Sig) where
         let is = same_thread c t (act (action.receive m n) p) (act (action.input n') p') r r' in absurd (cc)
     one_doing _ _ _ d _ _ _ _ _ _ w e (IsDoing.inputs_on {m = m} {n = n} {x = x} {p = p} t k σ r h v f) (IsDoing.inputs_on {m = m'} {n = n'} {x = x'} {p = p'} t' k' σ' r' h' v' f') =
         let entry = same_entry es k x x' h h' in
-        same (ap (λ (y : Tree). call_text (codes "in") (term_text true (named ds y) ∷ [])) entry) (receive_texts t k σ σ' m n m' n' x x' p p' r r' h h' v v' f f')
+        same (ap (taken_on ds) entry) (receive_texts t k σ σ' m n m' n' x x' p p' r r' h h' v v' f f')
     one_doing _ _ _ d _ _ _ _ _ _ w e (IsDoing.meets {m = m} {n = n} {l = l} {r = r} {x = x} {u = u} {p = p} {q = q} s t σ h k x_form u_form f) (IsDoing.meets {m = m'} {n = n'} {l = l'} {r = r'} {x = x'} {u = u'} {p = p'} {q = q'} s' t' σ' h' k' x_form' u_form' f') =
         let sender = same_thread c s (act (action.send m' n') p') (act (action.send m n) p) h' h in
         let on : m' ≡ m = cc in
         let sent : n' ≡ n = cc in
         let channel : x ≡ x' = laws.one_form (equations g) m x x' x_form (subst (λ (y : Tree). IsNormalForm (equations g) y x') on x_form') in
         let term : u ≡ u' = laws.one_form (equations g) n u u' u_form (subst (λ (y : Tree). IsNormalForm (equations g) y u') sent u_form') in
-        same (λ i. call_text (codes "out") (term_told ds (channel i) ∷ term_told ds (term i) ∷ [])) (meet_texts t σ σ' l r l' r' n n' u q q' k k' sent u_form f f')
-    one_doing _ _ _ d _ _ _ _ _ _ w e (IsDoing.agrees t) (IsDoing.agrees t') = same refl refl
-    one_doing _ _ _ d _ _ _ _ _ _ w e (IsDoing.differs t) (IsDoing.differs t') = same refl refl
-    one_doing _ _ _ d _ _ _ _ _ _ w e (IsDoing.shows t) (IsDoing.shows t') = same refl refl
-    one_doing _ _ _ d _ _ _ _ _ _ w e (IsDoing.inserts t) (IsDoing.inserts t') = same refl refl
-    one_doing _ _ _ d _ _ _ _ _ _ w e (IsDoing.deletes t) (IsDoing.deletes t') = same refl refl
+        same (λ i. said_out ds (sym on i ∷ sym sent i ∷ []) (channel i ∷ term i ∷ [])) (meet_texts t σ σ' l r l' r' n n' u q q' k k' sent u_form f f')
+    one_doing _ _ _ d _ _ _ _ _ _ w e (IsDoing.agrees {m = m} {n = n} {x = x} {y = y} {p = p} {q = q} t r) (IsDoing.agrees {m = m'} {n = n'} {p = p'} {q = q'} t' r') =
+        let is = same_thread c t (whole.test m n p q) (whole.test m' n' p' q') r r' in
+        let left : m ≡ m' = cc in
+        let right : n ≡ n' = cc in
+        same (λ i. said_if ds (left i ∷ right i ∷ []) (x ∷ y ∷ [])) refl
+    one_doing _ _ _ d _ _ _ _ _ _ w e (IsDoing.differs {m = m} {n = n} {x = x} {y = y} {p = p} {q = q} t r) (IsDoing.differs {m = m'} {n = n'} {p = p'} {q = q'} t' r') =
+        let is = same_thread c t (whole.test m n p q) (whole.test m' n' p' q') r r' in
+        let left : m ≡ m' = cc in
+        let right : n ≡ n' = cc in
+        same (λ i. said_if ds (left i ∷ right i ∷ []) (x ∷ y ∷ [])) refl
+    one_doing _ _ _ d _ _ _ _ _ _ w e (IsDoing.shows {f = f} {h = h} {p = p} t r) (IsDoing.shows {f = f'} {p = p'} t' r') =
+        let is = same_thread c t (act (action.event f) p) (act (action.event f') p') r r' in
+        let stands : f ≡ f' = cc in
+        same (ap (λ (y : Fact). said_event ds y h) stands) refl
+    one_doing _ _ _ d _ _ _ _ _ _ w e (IsDoing.inserts {m = m} {n = n} {k = k} {v = v} {p = p} t r) (IsDoing.inserts {m = m'} {n = n'} {p = p'} t' r') =
+        let is = same_thread c t (act (action.insert m n) p) (act (action.insert m' n') p') r r' in
+        let key : m ≡ m' = cc in
+        let value : n ≡ n' = cc in
+        same (λ i. said_word (codes "insert") ds (key i ∷ value i ∷ []) (k ∷ v ∷ [])) refl
+    one_doing _ _ _ d _ _ _ _ _ _ w e (IsDoing.deletes {m = m} {k = k} {p = p} t r) (IsDoing.deletes {m = m'} {p = p'} t' r') =
+        let is = same_thread c t (act (action.delete m) p) (act (action.delete m') p') r r' in
+        let stands : m ≡ m' = cc in
+        same (λ i. said_word (codes "delete") ds (stands i ∷ []) (k ∷ [])) refl
     one_doing _ _ _ d _ _ _ _ _ _ w e (IsDoing.finds {m = m} {k = k} {v = v} {x = x} {p = p} {q = q} t r) (IsDoing.finds {m = m'} {x = x'} {p = p'} {q = q'} t' r') =
         let is = same_thread c t (whole.lookup m x p q) (whole.lookup m' x' p' q') r r' in
+        let key : m ≡ m' = cc in
         let var : x ≡ x' = cc in
-        same (ap (λ (y : Var). codes "lookup " ++ (term_told ds k ++ (codes " as " ++ variable_text y))) var) (ap (λ (y : Var). bound_text ds (y, v) ∷ []) var)
+        same (λ i. said_lookup (variable_text (var i)) ds (key i ∷ []) (k ∷ [])) (ap (λ (y : Var). bound_text ds (y, v) ∷ []) var)
     one_doing _ _ _ d _ _ _ _ _ _ w e (IsDoing.misses {m = m} {k = k} {x = x} {p = p} {q = q} t r) (IsDoing.misses {m = m'} {x = x'} {p = p'} {q = q'} t' r') =
         let is = same_thread c t (whole.lookup m x p q) (whole.lookup m' x' p' q') r r' in
+        let key : m ≡ m' = cc in
         let var : x ≡ x' = cc in
-        same (ap (λ (y : Var). codes "lookup " ++ (term_told ds k ++ (codes " as " ++ variable_text y))) var) refl
-    one_doing _ _ _ d _ _ _ _ _ _ w e (IsDoing.locks t) (IsDoing.locks t') = same refl refl
-    one_doing _ _ _ d _ _ _ _ _ _ w e (IsDoing.unlocks t) (IsDoing.unlocks t') = same refl refl
+        same (λ i. said_lookup (variable_text (var i)) ds (key i ∷ []) (k ∷ [])) refl
+    one_doing _ _ _ d _ _ _ _ _ _ w e (IsDoing.locks {m = m} {k = k} {i = j} {p = p} t r) (IsDoing.locks {m = m'} {i = j'} {p = p'} t' r') =
+        let is = same_thread c t (act (action.lock m j) p) (act (action.lock m' j') p') r r' in
+        let stands : m ≡ m' = cc in
+        same (λ i. said_word (codes "lock") ds (stands i ∷ []) (k ∷ [])) refl
+    one_doing _ _ _ d _ _ _ _ _ _ w e (IsDoing.unlocks {m = m} {k = k} {i = j} {p = p} t r) (IsDoing.unlocks {m = m'} {i = j'} {p = p'} t' r') =
+        let is = same_thread c t (act (action.unlock m j) p) (act (action.unlock m' j') p') r r' in
+        let stands : m ≡ m' = cc in
+        same (λ i. said_word (codes "unlock") ds (stands i ∷ []) (k ∷ [])) refl
     one_doing _ _ _ d _ _ _ _ _ _ w z (IsDoing.embeds {l = l} {e = e} {r = r} {rest = rest} {p = p} t ks b σ left acts right runs m a i j k h) (IsDoing.embeds {l = l'} {e = e'} {r = r'} {rest = rest'} {p = p'} t' ks' b' σ' left' acts' right' runs' m' a' i' j' k' h') =
         let is = same_thread c t (act (action.embedded l' e' r') p') (act (action.embedded l e r) p) runs' runs in
         let ls : l' ≡ l = cc in
@@ -392,7 +425,7 @@ module _ (laws : Laws) (g : Sig) where
     one_doing _ _ _ d _ _ _ _ _ _ w e (IsDoing.names n) (IsDoing.names n') = same refl refl
     one_doing _ _ _ d _ _ _ _ _ _ w e (IsDoing.writes a) (IsDoing.writes a') = same refl refl
     one_doing _ _ _ d _ _ _ _ _ _ w e (IsDoing.applies f ks x) (IsDoing.applies f' ks' x') =
-        let term = (same_from_push es es x x' e).1 in same (ap (λ (y : Tree). call_text f (map decimal ks) ++ (codes " = " ++ term_told ds y)) term) refl
+        let term = (same_from_push es es x x' e).1 in same (ap (applied_text ds f ks) term) refl
     one_doing _ _ _ d _ _ _ _ _ _ w e (IsDoing.knows k x h) (IsDoing.knows k' x' h') =
         let entry = same_entry es k x x' h h' in same (ap (term_told ds) entry) refl
 
@@ -407,11 +440,11 @@ record AreOneRun (c d : Config) (es fs : List Tree) (ds hs : List Draw) (text ot
   draws : ds ≡ hs
   texts : text ≡ other
 
-module _ (laws : Laws) (g : Sig) (p : Proc) (hold : HoldsBuiltins g) (ready : IsReady g p) where
-  exactly : {ls : List PStep} {c : Config} {es : List Tree} {tr : Trace} {ms : List Mark} {ds : List Draw} {text : List ℕ} → IsToldRun g p ls c es tr ms ds text → MatchesExactly g c es
-  exactly run = laws.exactly g p _ _ _ _ _ hold ready (laws.small_runs g p _ _ _ _ _ (legal g p _ _ _ _ _ _ _ run))
+module _ (laws : Laws) (g : Sig) (p : Proc) (cast : Cast) (hold : HoldsBuiltins g) (ready : IsReady g p) where
+  exactly : {ls : List PStep} {c : Config} {es : List Tree} {tr : Trace} {ms : List Mark} {ds : List Draw} {text : List ℕ} → IsToldRun g p cast ls c es tr ms ds text → MatchesExactly g c es
+  exactly run = laws.exactly g p _ _ _ _ _ hold ready (laws.small_runs g p _ _ _ _ _ (legal g p cast _ _ _ _ _ _ _ run))
 
-  one_run : {ls ks : List PStep} {c d : Config} {es fs : List Tree} {tr ur : Trace} {ms ns : List Mark} {ds hs : List Draw} {text other : List ℕ} → IsToldRun g p ls c es tr ms ds text → IsToldRun g p ks d fs ur ns hs other
+  one_run : {ls ks : List PStep} {c d : Config} {es fs : List Tree} {tr ur : Trace} {ms ns : List Mark} {ds hs : List Draw} {text other : List ℕ} → IsToldRun g p cast ls c es tr ms ds text → IsToldRun g p cast ks d fs ur ns hs other
       → ls ≡ ks → AreOneRun c d es fs ds hs text other
   one_run told.starts told.starts e = record { configs = refl; entries = refl; draws = refl; texts = refl }
   one_run told.starts (told.further {lines = ks} step inner label t h l x) e = absurd (never_empty ks step e)
@@ -436,12 +469,12 @@ module _ (laws : Laws) (g : Sig) (p : Proc) (hold : HoldsBuiltins g) (ready : Is
       let doing = one_doing laws g hs c es (exactly h) step inner label c_next fs fs' x.doing x'.doing x.outcomes x'.outcomes l one.entries x.done done in
       let line_one : t ≡ t' =
       x.written
-      ∙ (λ i. line_text (length (ends.0 i) + 1) (actor_text (thread_paths (ends.0 i)) (ends.1 i)) (doing.doing i) (seen_texts (names i) (one.labels i) (before.entries i) (one.entries i) ++ doing.outcomes i))
+      ∙ (λ i. line_text (length (ends.0 i) + 1) (actor_text (stage_of cast (ends.0 i) (ends.1 i)) (ends.1 i)) (doing.doing i) (seen_texts (names i) (one.labels i) (before.entries i) (one.entries i) ++ doing.outcomes i))
       ∙ sym x'.written in
       record { configs = one.configurations; entries = one.entries; draws = names; texts = λ i. before.texts i ++ (line_one i ++ 10 ∷ []) }
 
 pub one_text : Laws → RunsAreToldByOneText
-one_text laws g p ls c d es fs tr ur ms ns ds hs text other hold ready x y = let r = one_run laws g p hold ready x y refl in (r.draws, r.texts)
+one_text laws g p cast ls c d es fs tr ur ms ns ds hs text other hold ready x y = let r = one_run laws g p cast hold ready x y refl in (r.draws, r.texts)
 
 pub one_thing : Laws → LinesDoOneThing
 one_thing laws g ds c d es fs step inner label doing other outcomes others exact line x y =

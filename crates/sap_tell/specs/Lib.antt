@@ -2,7 +2,9 @@ pub mod Draws
 pub mod Escaped
 pub mod ThreadPaths
 pub mod ThreadPlaces
+pub mod Stages
 pub mod ToldText
+pub mod Said
 pub mod Told
 pub mod ToldLaws
 pub mod ToldExamples

@@ -1,6 +1,9 @@
 -- Lines of a run of the example of the key server, to see by hand what is told of them.
-use Rattle.std.specs.Prelude.{ℕ, codes, List, [], ◌∷◌}
+use Rattle.std.specs.Prelude.{ℕ, zero, suc, codes, List, [], ◌∷◌, None, Some, if◌then◌else◌}
+use Rattle.std.specs.Str.{bytes_eq}
 use Rattle.sap_called.specs.Names.{Draw, draw}
+use Rattle.sap_players.specs.Casts.{Cast}
+use Rattle.sap_players.specs.Numbers.{Player}
 use Rattle.sap_runs.specs.declared.process_step.PStep.{PStep}
 use Rattle.sap_runs.specs.declared.process_step.PStep.TheVariants as line
 use Rattle.sap_terms.specs.AdversaryFacts.{linear}
@@ -13,6 +16,8 @@ use Rattle.sap_terms.specs.declared.var.Sort.TheVariants.{Msg, Fresh, Pub}
 use Rattle.sap_terms.specs.declared.var.Var.{Var}
 use Rattle.sap_process.specs.Action as action
 use Rattle.sap_process.specs.Proc.{Proc, nil, parallel, act}
+use Rattle.sap_tell.specs.Stages.{Stage, stage_of}
+use Rattle.sap_tell.specs.ToldText.{actor_text}
 
 -- the lines of the run up to its first event
 abbrev pub first_lines : List PStep
@@ -21,6 +26,34 @@ first_lines = line.Par 0 ∷ line.Rep 0 ∷ line.New 2 1 ∷ []
 -- where threads stand then: the first at 1, the second at 2, the third, which began at 11, at 111
 abbrev pub first_paths : List (List ℕ)
 first_paths = (1 ∷ []) ∷ (2 ∷ []) ∷ (1 ∷ 1 ∷ 1 ∷ []) ∷ []
+
+-- in a process whose threads have no role
+abbrev pub no_roles : Cast
+no_roles = record { names = []; at = λ path. None }
+
+abbrev pub first_stage : Stage
+first_stage = record { cast = no_roles; played = []; paths = first_paths }
+
+-- what is told there of who acts in a line, and before the first line of such a process
+abbrev pub who : PStep → List ℕ
+who step = actor_text first_stage step
+
+abbrev pub at_root : PStep → List ℕ
+at_root step = actor_text (stage_of no_roles [] step) step
+
+-- in a process with the roles Server, at 2, and Maker, at 111
+abbrev pub two_roles : Cast
+two_roles = record {
+  names = codes "Server" ∷ codes "Maker" ∷ [];
+  at = λ path. if bytes_eq path (2 ∷ []) then Some 0 else if bytes_eq path (1 ∷ 1 ∷ 1 ∷ []) then Some 1 else None;
+}
+
+-- what is told of who acts in a line behind these first ones, and where these threads did something in these roles
+abbrev pub who_behind : PStep → List ℕ
+who_behind step = actor_text (stage_of two_roles first_lines step) step
+
+abbrev pub who_where : List Player → PStep → List ℕ
+who_where played step = actor_text (record { cast = two_roles; played = played; paths = first_paths }) step
 
 -- the name that is drawn there, by the word of its variable
 abbrev pub first_names : List Draw
@@ -86,3 +119,8 @@ showing t = act (action.event (a_of t)) nil
 -- in(x); ( event A(x) | 0 )
 abbrev pub taking : Proc
 taking = act (action.input (variable x)) (parallel (showing (variable x)) nil)
+
+-- 'hi' under so many symbols: a term of one node more
+abbrev pub large : ℕ → Tree
+large zero = hi
+large (suc n) = app1 (codes "h") (large n)

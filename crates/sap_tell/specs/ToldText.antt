@@ -11,6 +11,7 @@ use Rattle.sap_runs.specs.declared.process_step.PStep.TheVariants as line
 use Rattle.sap_terms.specs.Tree.{Tree}
 use Rattle.sap_terms.specs.declared.fact.Fact.{Fact}
 use Rattle.sap_terms.specs.declared.var.Var.{Var}
+use Rattle.sap_tell.specs.Stages.{Stage, part_of}
 use Rattle.sap_tell.specs.ThreadPaths.{path_of}
 
 -- a place by its path
@@ -18,18 +19,34 @@ abbrev pub place_text : List ℕ → List ℕ
 place_text [] = codes "the root"
 place_text (d ∷ ds) = flat_map decimal (d ∷ ds)
 
--- a thread by its number, and where it stands
-abbrev pub thread_text : List (List ℕ) → ℕ → List ℕ
-thread_text paths t = codes "thread " ++ (decimal t ++ (codes " at " ++ place_text (path_of paths t)))
+-- a thread by its number alone
+abbrev pub number_text : ℕ → List ℕ
+number_text t = codes "thread " ++ decimal t
 
-abbrev pub one_actor_text : List (List ℕ) → Option ℕ → List ℕ
-one_actor_text paths (Some t) = thread_text paths t
-one_actor_text paths None = codes "adversary"
+-- which one of its role it is
+abbrev pub role_text : List ℕ → ℕ → List ℕ
+role_text f k = f ++ (codes " #" ++ decimal k)
+
+-- what a thread is called: where it is one of a role, by that and its number; else by its number alone
+abbrev pub called_text : ℕ → Option (List ℕ × ℕ) → List ℕ
+called_text t None = number_text t
+called_text t (Some p) = role_text p.0 p.1 ++ (codes " (" ++ (number_text t ++ codes ")"))
+
+-- the same, and where it stands
+abbrev pub thread_by : Option (List ℕ × ℕ) → List (List ℕ) → ℕ → List ℕ
+thread_by part paths t = called_text t part ++ (codes " at " ++ place_text (path_of paths t))
+
+abbrev pub thread_text : Stage → ℕ → List ℕ
+thread_text s t = thread_by (part_of s t) s.paths t
+
+abbrev pub one_actor_text : Stage → Option ℕ → List ℕ
+one_actor_text s (Some t) = thread_text s t
+one_actor_text s None = codes "adversary"
 
 -- who acts: a thread, two that meet, or the adversary
-abbrev pub actor_text : List (List ℕ) → PStep → List ℕ
-actor_text paths (line.Sync s t) = thread_text paths s ++ (codes " to " ++ thread_text paths t)
-actor_text paths step = one_actor_text paths (thread_of step)
+abbrev pub actor_text : Stage → PStep → List ℕ
+actor_text a (line.Sync s t) = thread_text a s ++ (codes " to " ++ thread_text a t)
+actor_text a step = one_actor_text a (thread_of step)
 
 -- a word with terms in parentheses
 abbrev pub call_text : List ℕ → List (List ℕ) → List ℕ

@@ -1,18 +1,22 @@
 //! Runs of processes as people read them.
 #![tactic(auto)]
 
-mod actor;
+mod called;
 mod escaped;
 mod laws;
 mod names_behind;
+mod roles_by_hand;
+mod said;
 mod thread_paths;
 mod told_by_hand;
 mod told_laws;
 
-pub use actor::{push_actor, push_thread};
+pub use called::{Part, push_role, push_thread};
 pub use escaped::push_escaped;
 pub use laws::{escaped_by_hand, escaped_stands_for_one};
 pub use names_behind::push_names_behind;
+pub use roles_by_hand::{players_by_hand, roles_told_by_hand};
+pub use said::said_by_hand;
 pub use thread_paths::ThreadPaths;
 pub use told_by_hand::{
     draws_by_hand, forms_told_by_hand, lines_told_by_hand, names_behind_by_hand, paths_by_hand,

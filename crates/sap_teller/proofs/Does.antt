@@ -27,7 +27,7 @@ use Rattle.sap_runs.specs.declared.process_step.PStep.{PStep}
 use Rattle.sap_runs.specs.declared.process_step.PStep.TheVariants as line
 use Rattle.sap_terms.specs.Choice.{Choice, instance}
 use Rattle.sap_terms.specs.Equal.{IsTheoryEqual}
-use Rattle.sap_terms.specs.Equations.{equations, app2, pair_name, IsDestructor}
+use Rattle.sap_terms.specs.Equations.{Equations, equations, app2, pair_name, IsDestructor}
 use Rattle.sap_terms.specs.Message.{IsMessageChoice}
 use Rattle.sap_terms.specs.Normal.{IsNormal, IsNormalForm}
 use Rattle.sap_terms.specs.Signature.{Sig}
@@ -38,15 +38,17 @@ use Rattle.sap_terms.specs.declared.binding.Binding.{Binding}
 use Rattle.sap_terms.specs.declared.fact.Fact.{Fact}
 use Rattle.sap_terms.specs.declared.term.Term.{Term}
 use Rattle.sap_terms.specs.declared.var.Var.{Var}
+use Rattle.sap_tell.specs.Said.{applied_text, said_event, said_if, said_lookup, said_out, said_word, taken_on}
 use Rattle.sap_tell.specs.Told as told
 use Rattle.sap_tell.specs.Told.{IsDoing, bound_texts}
 use Rattle.sap_tell.specs.ToldText.{bound_text, begins_text, call_text, held_text, free_text, term_told}
 use Rattle.sap_teller.specs.code.Doings.{action_of, outcomes_of, binding_texts}
 use Rattle.sap_teller.specs.code.LawsBelow.{Laws}
-use Rattle.sap_teller.specs.code.Heads.{IsOfOne, IsOfTwo, IsMade, IsCompared, IsInserted, IsDeleted, IsLooked, IsLocked, IsUnlocked, IsFitted, IsMetBy, IsOfEntry, AreOfEntries, IsTakenAt}
+use Rattle.sap_teller.specs.code.Heads.{IsOfOne, IsOfTwo, IsMade, IsCompared, IsInserted, IsDeleted, IsLooked, IsLocked, IsUnlocked, IsFitted, IsMetBy, IsOfEntry, IsSentBy, IsSentOnBy, IsShownBy, IsTakenAt}
 use Rattle.sap_teller.specs.declared.doing.Doing.{Doing}
+use Rattle.sap_teller.specs.declared.said.Two.{Two}
 use Rattle.sap_teller.specs.declared.doing.Doing.TheVariants as does
-use Rattle.sap_teller.proofs.Inverted.{IsOne, AreTwo, new_form, in_form, recv_form, send_form, if_form, insert_form, delete_form, lookup_form, lock_form, unlock_form}
+use Rattle.sap_teller.proofs.Inverted.{IsOne, AreTwo, new_form, out_form, event_form, in_form, recv_form, send_form, if_form, insert_form, delete_form, lookup_form, lock_form, unlock_form}
 
 -- a line that is possible here does this
 abbrev pub DoesHere : Sig → Config → List Tree → Config → List Tree → PStep → Doing → Type 0
@@ -87,20 +89,30 @@ does_names n ds inner label (lines.names _ u) = told.names n
 pub does_writes : {g : Sig} {c d : Config} {es fs : List Tree} (a : Bor (List ℕ)) → DoesHere g c es d fs (line.Public a.now) (does.Writes a)
 does_writes a ds inner label (lines.writes _) = told.writes a.now
 
-pub does_shows : {g : Sig} {c d : Config} {es fs : List Tree} (t : ℕ) → DoesHere g c es d fs (line.Event t) does.Shows
-does_shows t ds inner label (lines.shows _ r f w) = told.shows t
+-- what holds of some terms holds of those that are the same
+two_moved : (P : Tree → Tree → Type 0) {m n x y : Tree} → m ≡ n → x ≡ y → P n y → P m x
+two_moved P {m = m} {y = y} e h p = subst (P m) (sym h) (subst (λ (u : Tree). P u y) (sym e) p)
+
+four_moved : (P : Tree → Tree → Tree → Tree → Type 0) {m n l r x y z w : Tree} → m ≡ n → l ≡ r → x ≡ y → z ≡ w → P n r y w → P m l x z
+four_moved P {m = m} {l = l} {y = y} {w = w} e h k j p = two_moved (P m l) k j (two_moved (λ a b. P a b y w) e h p)
+
+pub does_shows : {g : Sig} {c d : Config} {es fs : List Tree} (t : ℕ) (f : Form) (x : Doing) → HasHead c t f → IsShownBy f x → DoesHere g c es d fs (line.Event t) x
+does_shows {g = g} {c = c} {es = es} t f x h k ds inner label (lines.shows {f = e} {h = s} {p = p} _ r a w) =
+    let i = k e (event_form f e p h.first h.second (one_thread c t (form_proc f h.first h.second) (act (action.event e) p) h.runs r)) in
+    by_is i.2 (subst (λ (u : Fact). IsDoing g ds c es (line.Event t) [] (s ∷ []) es (said_event ds u s) []) (sym i.1) (told.shows t r))
 
 -- lines that tell entries
-pub does_sends : {g : Sig} {c d : Config} {es fs : List Tree} (t k : ℕ) (x : Doing) → k ≡ length es → IsOfEntry fs k does.Sends x → DoesHere g c es d fs (line.Out t) x
-does_sends {g = g} {c = c} {es = es} t k x at h ds inner label (lines.outputs {n = n} _ r f w) =
-    let i = h n (ap (slice_get (es ++ n ∷ [])) at ∙ got_end es n) in
-    by_is i.is (subst (λ (u : Tree). IsDoing g ds c es (line.Out t) [] [] (es ++ n ∷ []) (call_text (codes "out") (term_told ds u ∷ [])) []) (sym i.same) (told.outputs t n))
+pub does_sends : {g : Sig} {c d : Config} {es fs : List Tree} (t k : ℕ) (f : Form) (x : Doing) → k ≡ length es → HasHead c t f → IsSentBy fs k f x → DoesHere g c es d fs (line.Out t) x
+does_sends {g = g} {c = c} {es = es} t k f x at h s ds inner label (lines.outputs {m = m} {n = n} {p = p} _ r a w) =
+    let i = out_form f m p h.first h.second (one_thread c t (form_proc f h.first h.second) (act (action.out m) p) h.runs r) in
+    let o = s i.term n i.form (ap (slice_get (es ++ n ∷ [])) at ∙ got_end es n) in
+    by_is o.is (two_moved (λ a b. IsDoing g ds c es (line.Out t) [] [] (es ++ n ∷ []) (said_out ds (a ∷ []) (b ∷ [])) []) (ap tree o.stands ∙ i.is) o.same (told.outputs t n r))
 
-pub does_sends_on : {g : Sig} {c d : Config} {es fs : List Tree} (t k j : ℕ) (x : Doing) → j ≡ length es → AreOfEntries fs k j does.SendsOn x → DoesHere g c es d fs (line.Send t k) x
-does_sends_on {g = g} {c = c} {es = es} t k j x at h ds inner label (lines.outputs_on {x = z} {u = u} _ _ r e f n w) =
-    let i = h z u (got_front es u z k e) (ap (slice_get (es ++ u ∷ [])) at ∙ got_end es u) in
-    by_is i.is (subst (λ (a : Tree). IsDoing g ds c es (line.Send t k) [] label (es ++ u ∷ []) (call_text (codes "out") (term_told ds a ∷ term_told ds (tree i.right.now) ∷ [])) []) (sym i.left_same)
-    (subst (λ (b : Tree). IsDoing g ds c es (line.Send t k) [] label (es ++ u ∷ []) (call_text (codes "out") (term_told ds z ∷ term_told ds b ∷ [])) []) (sym i.right_same) (told.outputs_on t k u e)))
+pub does_sends_on : {g : Sig} {c d : Config} {es fs : List Tree} (t k j : ℕ) (f : Form) (x : Doing) → j ≡ length es → HasHead c t f → IsSentOnBy fs k j f x → DoesHere g c es d fs (line.Send t k) x
+does_sends_on {g = g} {c = c} {es = es} t k j f x at h s ds inner label (lines.outputs_on {m = m} {n = n} {x = z} {u = u} {p = p} _ _ r e a b w) =
+    let i = send_form f m n p h.first h.second (one_thread c t (form_proc f h.first h.second) (act (action.send m n) p) h.runs r) in
+    let o = s i.left i.right z u i.form (got_front es u z k e) (ap (slice_get (es ++ u ∷ [])) at ∙ got_end es u) in
+    by_is o.is (four_moved (λ a b v y. IsDoing g ds c es (line.Send t k) [] label (es ++ u ∷ []) (said_out ds (a ∷ b ∷ []) (v ∷ y ∷ [])) []) (ap tree o.left_stands ∙ i.left_is) (ap tree o.right_stands ∙ i.right_is) o.left_same o.right_same (told.outputs_on t k u r e))
 
 pub does_knows : {g : Sig} {c d : Config} {es fs : List Tree} (k : ℕ) (x : Doing) → IsOfEntry fs k does.Gives x → DoesHere g c es d fs (line.Know k) x
 does_knows {g = g} {c = c} {es = es} k x h ds inner label (lines.knows _ z e) =
@@ -110,7 +122,7 @@ does_knows {g = g} {c = c} {es = es} k x h ds inner label (lines.knows _ z e) =
 pub does_applies : {g : Sig} {c d : Config} {es fs : List Tree} (f ks : Bor (List ℕ)) (k : ℕ) (x : Doing) → k ≡ length es → IsOfEntry fs k (does.Applies f ks) x → DoesHere g c es d fs (line.Apply f.now ks.now) x
 does_applies {g = g} {c = c} {es = es} f ks k x at h ds inner label (lines.applies _ _ ts z p a m n w) =
     let i = h z (ap (slice_get (es ++ z ∷ [])) at ∙ got_end es z) in
-    by_is i.is (subst (λ (u : Tree). IsDoing g ds c es (line.Apply f.now ks.now) [] [] (es ++ z ∷ []) (call_text f.now (map decimal ks.now) ++ (codes " = " ++ term_told ds u)) []) (sym i.same) (told.applies f.now ks.now z))
+    by_is i.is (subst (λ (u : Tree). IsDoing g ds c es (line.Apply f.now ks.now) [] [] (es ++ z ∷ []) (applied_text ds f.now ks.now u) []) (sym i.same) (told.applies f.now ks.now z))
 
 -- lines of a thread with a head
 pub does_made : {g : Sig} {c d : Config} {es fs : List Tree} (t n : ℕ) (f : Form) (x : Doing) → HasHead c t f → IsMade n f x → DoesHere g c es d fs (line.New t n) x
@@ -120,60 +132,70 @@ does_made {g = g} {c = c} {es = es} t n f x h m ds inner label (lines.makes_name
 
 module _ (laws : Laws) where
   -- what is made of normal forms is made of those that the line has
-  one_same : (g : Sig) {f : Form} {K : Term → Form} {D : Term → Doing} {m k : Tree} {x : Doing} (i : IsOne f K m) (o : IsOfOne (equations g) D i.term x) → IsNormalForm (equations g) m k → tree o.term ≡ k
+  one_same : (g : Sig) {f : Form} {K : Term → Form} {D : Bor Term → Term → Doing} {m k : Tree} {x : Doing} (i : IsOne f K m) (o : IsOfOne (equations g) D i.term x) → IsNormalForm (equations g) m k → tree o.term ≡ k
   one_same g {m = m} {k = k} i o n = laws.one (equations g) m (tree o.term) k (subst (λ (u : Tree). IsNormalForm (equations g) u (tree o.term)) i.is o.form) n
 
-  left_same : (g : Sig) {f : Form} {K : Term → Term → Form} {D : Term → Term → Doing} {m n k : Tree} {x : Doing} (i : AreTwo f K m n) (o : IsOfTwo (equations g) D i.left i.right x) → IsNormalForm (equations g) m k → tree o.left ≡ k
+  left_same : (g : Sig) {f : Form} {K : Term → Term → Form} {D : Two → Term → Term → Doing} {m n k : Tree} {x : Doing} (i : AreTwo f K m n) (o : IsOfTwo (equations g) D i.left i.right x) → IsNormalForm (equations g) m k → tree o.left ≡ k
   left_same g {m = m} {k = k} i o h = laws.one (equations g) m (tree o.left) k (subst (λ (u : Tree). IsNormalForm (equations g) u (tree o.left)) i.left_is o.left_form) h
 
-  right_same : (g : Sig) {f : Form} {K : Term → Term → Form} {D : Term → Term → Doing} {m n k : Tree} {x : Doing} (i : AreTwo f K m n) (o : IsOfTwo (equations g) D i.left i.right x) → IsNormalForm (equations g) n k → tree o.right ≡ k
+  right_same : (g : Sig) {f : Form} {K : Term → Term → Form} {D : Two → Term → Term → Doing} {m n k : Tree} {x : Doing} (i : AreTwo f K m n) (o : IsOfTwo (equations g) D i.left i.right x) → IsNormalForm (equations g) n k → tree o.right ≡ k
   right_same g {n = n} {k = k} i o h = laws.one (equations g) n (tree o.right) k (subst (λ (u : Tree). IsNormalForm (equations g) u (tree o.right)) i.right_is o.right_form) h
+
+  -- and so are the terms as they stand
+  stands_same : {e : Equations} {f : Form} {K : Term → Form} {D : Bor Term → Term → Doing} {m : Tree} {x : Doing} (i : IsOne f K m) (o : IsOfOne e D i.term x) → tree o.standing.now ≡ m
+  stands_same i o = ap tree o.stands ∙ i.is
+
+  left_stands : {e : Equations} {f : Form} {K : Term → Term → Form} {D : Two → Term → Term → Doing} {m n : Tree} {x : Doing} (i : AreTwo f K m n) (o : IsOfTwo e D i.left i.right x) → tree o.standing.left.now ≡ m
+  left_stands i o = ap tree o.left_stands ∙ i.left_is
+
+  right_stands : {e : Equations} {f : Form} {K : Term → Term → Form} {D : Two → Term → Term → Doing} {m n : Tree} {x : Doing} (i : AreTwo f K m n) (o : IsOfTwo e D i.left i.right x) → tree o.standing.right.now ≡ n
+  right_stands i o = ap tree o.right_stands ∙ i.right_is
 
   pub does_agrees : {g : Sig} {c d : Config} {es fs : List Tree} (t : ℕ) (f : Form) (x : Doing) → HasHead c t f → IsCompared (equations g) true f x → DoesHere g c es d fs (line.Then t) x
   does_agrees {g = g} {c = c} {es = es} t f x h k ds inner label (lines.agrees {m = m} {n = n} {x = y} {y = z} {p = p} {q = q} _ r a b e w) =
       let i = if_form f m n p q h.first h.second (one_thread c t (form_proc f h.first h.second) (test m n p q) h.runs r) in
       let o = k i.left i.right i.form in
-      by_is o.is (subst (λ (u : Tree). IsDoing g ds c es (line.Then t) (equal y z ∷ []) [] es (codes "if " ++ (term_told ds u ++ (codes " = " ++ term_told ds (tree o.right)))) (codes "then" ∷ [])) (sym (left_same g i o a))
-      (subst (λ (u : Tree). IsDoing g ds c es (line.Then t) (equal y z ∷ []) [] es (codes "if " ++ (term_told ds y ++ (codes " = " ++ term_told ds u))) (codes "then" ∷ [])) (sym (right_same g i o b)) (told.agrees t)))
+      by_is o.is (four_moved (λ s u v l. IsDoing g ds c es (line.Then t) (equal y z ∷ []) [] es (said_if ds (s ∷ u ∷ []) (v ∷ l ∷ [])) (codes "then" ∷ []))
+      (left_stands i o) (right_stands i o) (left_same g i o a) (right_same g i o b) (told.agrees t r))
 
   pub does_differs : {g : Sig} {c d : Config} {es fs : List Tree} (t : ℕ) (f : Form) (x : Doing) → HasHead c t f → IsCompared (equations g) false f x → DoesHere g c es d fs (line.Else t) x
   does_differs {g = g} {c = c} {es = es} t f x h k ds inner label (lines.differs {m = m} {n = n} {x = y} {y = z} {p = p} {q = q} _ r a b e w) =
       let i = if_form f m n p q h.first h.second (one_thread c t (form_proc f h.first h.second) (test m n p q) h.runs r) in
       let o = k i.left i.right i.form in
-      by_is o.is (subst (λ (u : Tree). IsDoing g ds c es (line.Else t) (different y z ∷ []) [] es (codes "if " ++ (term_told ds u ++ (codes " = " ++ term_told ds (tree o.right)))) (codes "else" ∷ [])) (sym (left_same g i o a))
-      (subst (λ (u : Tree). IsDoing g ds c es (line.Else t) (different y z ∷ []) [] es (codes "if " ++ (term_told ds y ++ (codes " = " ++ term_told ds u))) (codes "else" ∷ [])) (sym (right_same g i o b)) (told.differs t)))
+      by_is o.is (four_moved (λ s u v l. IsDoing g ds c es (line.Else t) (different y z ∷ []) [] es (said_if ds (s ∷ u ∷ []) (v ∷ l ∷ [])) (codes "else" ∷ []))
+      (left_stands i o) (right_stands i o) (left_same g i o a) (right_same g i o b) (told.differs t r))
 
   pub does_inserts : {g : Sig} {c d : Config} {es fs : List Tree} (t : ℕ) (f : Form) (x : Doing) → HasHead c t f → IsInserted (equations g) f x → DoesHere g c es d fs (line.Insert t) x
   does_inserts {g = g} {c = c} {es = es} t f x h k ds inner label (lines.inserts {m = m} {n = n} {k = y} {v = z} {p = p} _ r a b w) =
       let i = insert_form f m n p h.first h.second (one_thread c t (form_proc f h.first h.second) (act (action.insert m n) p) h.runs r) in
       let o = k i.left i.right i.form in
-      by_is o.is (subst (λ (u : Tree). IsDoing g ds c es (line.Insert t) (inserted y z ∷ []) [] es (codes "insert " ++ (term_told ds u ++ (codes ", " ++ term_told ds (tree o.right)))) []) (sym (left_same g i o a))
-      (subst (λ (u : Tree). IsDoing g ds c es (line.Insert t) (inserted y z ∷ []) [] es (codes "insert " ++ (term_told ds y ++ (codes ", " ++ term_told ds u))) []) (sym (right_same g i o b)) (told.inserts t)))
+      by_is o.is (four_moved (λ s u v l. IsDoing g ds c es (line.Insert t) (inserted y z ∷ []) [] es (said_word (codes "insert") ds (s ∷ u ∷ []) (v ∷ l ∷ [])) [])
+      (left_stands i o) (right_stands i o) (left_same g i o a) (right_same g i o b) (told.inserts t r))
 
   pub does_deletes : {g : Sig} {c d : Config} {es fs : List Tree} (t : ℕ) (f : Form) (x : Doing) → HasHead c t f → IsDeleted (equations g) f x → DoesHere g c es d fs (line.Delete t) x
   does_deletes {g = g} {c = c} {es = es} t f x h k ds inner label (lines.deletes {m = m} {k = y} {p = p} _ r a w) =
       let i = delete_form f m p h.first h.second (one_thread c t (form_proc f h.first h.second) (act (action.delete m) p) h.runs r) in
       let o = k i.term i.form in
-      by_is o.is (subst (λ (u : Tree). IsDoing g ds c es (line.Delete t) (deleted y ∷ []) [] es (codes "delete " ++ term_told ds u) []) (sym (one_same g i o a)) (told.deletes t))
+      by_is o.is (two_moved (λ s u. IsDoing g ds c es (line.Delete t) (deleted y ∷ []) [] es (said_word (codes "delete") ds (s ∷ []) (u ∷ [])) []) (stands_same i o) (one_same g i o a) (told.deletes t r))
 
   pub does_locks : {g : Sig} {c d : Config} {es fs : List Tree} (t : ℕ) (f : Form) (x : Doing) → HasHead c t f → IsLocked (equations g) f x → DoesHere g c es d fs (line.Lock t) x
   does_locks {g = g} {c = c} {es = es} t f x h k ds inner label (lines.locks {m = m} {k = y} {i = n} {p = p} _ r a b w) =
       let i = lock_form f m n p h.first h.second (one_thread c t (form_proc f h.first h.second) (act (action.lock m n) p) h.runs r) in
       let o = k i.term n i.form in
-      by_is o.is (subst (λ (u : Tree). IsDoing g ds c es (line.Lock t) (locked y ∷ []) [] es (codes "lock " ++ term_told ds u) (held_text ds u ∷ [])) (sym (one_same g i o a)) (told.locks t))
+      by_is o.is (two_moved (λ s u. IsDoing g ds c es (line.Lock t) (locked y ∷ []) [] es (said_word (codes "lock") ds (s ∷ []) (u ∷ [])) (held_text ds u ∷ [])) (stands_same i o) (one_same g i o a) (told.locks t r))
 
   pub does_unlocks : {g : Sig} {c d : Config} {es fs : List Tree} (t : ℕ) (f : Form) (x : Doing) → HasHead c t f → IsUnlocked (equations g) f x → DoesHere g c es d fs (line.Unlock t) x
   does_unlocks {g = g} {c = c} {es = es} t f x h k ds inner label (lines.unlocks {m = m} {k = y} {i = n} {p = p} _ r a w) =
       let i = unlock_form f m n p h.first h.second (one_thread c t (form_proc f h.first h.second) (act (action.unlock m n) p) h.runs r) in
       let o = k i.term n i.form in
-      by_is o.is (subst (λ (u : Tree). IsDoing g ds c es (line.Unlock t) (unlocked y ∷ []) [] es (codes "unlock " ++ term_told ds u) (free_text ds u ∷ [])) (sym (one_same g i o a)) (told.unlocks t))
+      by_is o.is (two_moved (λ s u. IsDoing g ds c es (line.Unlock t) (unlocked y ∷ []) [] es (said_word (codes "unlock") ds (s ∷ []) (u ∷ [])) (free_text ds u ∷ [])) (stands_same i o) (one_same g i o a) (told.unlocks t r))
 
   pub does_misses : {g : Sig} {c d : Config} {es fs : List Tree} (t : ℕ) (f : Form) (x : Doing) → HasHead c t f → IsLooked (equations g) None f x → DoesHere g c es d fs (line.Missing t) x
   does_misses {g = g} {c = c} {es = es} t f x h k ds inner label (lines.misses {m = m} {k = y} {x = v} {p = p} {q = q} _ r a b w) =
       let i = lookup_form f m v p q h.first h.second (one_thread c t (form_proc f h.first h.second) (lookup m v p q) h.runs r) in
       let o = k i.term v i.form in
-      by_is o.2.is (subst (λ (z : Var). IsDoing g ds c es (line.Missing t) (missing y ∷ []) [] es (codes "lookup " ++ (term_told ds (tree o.2.term) ++ (codes " as " ++ variable_text z))) (codes "nothing there" ∷ [])) (sym o.1)
-      (subst (λ (u : Tree). IsDoing g ds c es (line.Missing t) (missing y ∷ []) [] es (codes "lookup " ++ (term_told ds u ++ (codes " as " ++ variable_text v))) (codes "nothing there" ∷ [])) (sym (one_same g i o.2 a)) (told.misses t r)))
+      by_is o.2.is (subst (λ (z : Var). IsDoing g ds c es (line.Missing t) (missing y ∷ []) [] es (said_lookup (variable_text z) ds (tree o.2.standing.now ∷ []) (tree o.2.term ∷ [])) (codes "nothing there" ∷ [])) (sym o.1)
+      (two_moved (λ s u. IsDoing g ds c es (line.Missing t) (missing y ∷ []) [] es (said_lookup (variable_text v) ds (s ∷ []) (u ∷ [])) (codes "nothing there" ∷ [])) (stands_same i o.2) (one_same g i o.2 a) (told.misses t r)))
 
   -- the store has one value at the key of a lookup
   one_value : (g : Sig) (c : Config) (t : ℕ) (m x v n k u : Tree) (y z : Var) (p q a b : Proc) → Runs c t (lookup m y p q) → IsNormalForm (equations g) m x → c.store x ≡ Some v
@@ -208,9 +230,10 @@ module _ (laws : Laws) where
       let at = found_is r exact t (found y v ∷ []) [] _ es m y v z p q o run a held (lines.finds t run a held w) s in
       let i = lookup_form f m z p q h.first h.second (one_thread c t (form_proc f h.first h.second) (lookup m z p q) h.runs run) in
       let u = k i.term z i.form in
-      by_is (u.2.is ∙ ap (does.Looks u.2.term u.0) at.1) (subst (λ (n : Var). IsDoing r.sig ds c es (line.Found t) (found y v ∷ []) [] es (codes "lookup " ++ (term_told ds (tree u.2.term) ++ (codes " as " ++ variable_text n))) (bound_text ds (n, tree at.0.now) ∷ [])) (sym u.1)
-      (subst (λ (n : Tree). IsDoing r.sig ds c es (line.Found t) (found y v ∷ []) [] es (codes "lookup " ++ (term_told ds n ++ (codes " as " ++ variable_text z))) (bound_text ds (z, tree at.0.now) ∷ [])) (sym (one_same r.sig i u.2 a))
-      (subst (λ (n : Tree). IsDoing r.sig ds c es (line.Found t) (found y v ∷ []) [] es (codes "lookup " ++ (term_told ds y ++ (codes " as " ++ variable_text z))) (bound_text ds (z, n) ∷ [])) (sym at.2) (told.finds t run))))
+      by_is (u.2.is ∙ ap (does.Looks u.2.standing u.2.term u.0) at.1)
+      (subst (λ (n : Var). IsDoing r.sig ds c es (line.Found t) (found y v ∷ []) [] es (said_lookup (variable_text n) ds (tree u.2.standing.now ∷ []) (tree u.2.term ∷ [])) (bound_text ds (n, tree at.0.now) ∷ [])) (sym u.1)
+      (two_moved (λ b n. IsDoing r.sig ds c es (line.Found t) (found y v ∷ []) [] es (said_lookup (variable_text z) ds (b ∷ []) (n ∷ [])) (bound_text ds (z, tree at.0.now) ∷ [])) (stands_same i u.2) (one_same r.sig i u.2 a)
+      (subst (λ (n : Tree). IsDoing r.sig ds c es (line.Found t) (found y v ∷ []) [] es (said_lookup (variable_text z) ds (m ∷ []) (y ∷ [])) (bound_text ds (z, n) ∷ [])) (sym at.2) (told.finds t run))))
 
   -- a choice that fits turns the pattern into the normal term
   module _ (g : Sig) where
@@ -285,17 +308,19 @@ module _ (laws : Laws) where
       let there = turned g σ n parts.second messages (All-head (IsPattern (equations g)) n [] (exact.patterns_are t (act (action.receive m n) p) run)) parts.second_form.normal parts.second_form.equal in
       let fitted : IsFitted n parts.second (does.Takes a.term true) x = subst (λ (v : Tree). IsFitted v parts.second (does.Takes a.term true) x) i.right_is (a.by.on_channel i.left i.right i.form parts.first parts.second (a.same ∙ parts.is)) in
       let b = bound_as σ n parts.second (does.Takes a.term true) x (recv_sorts h i) there fitted in
-      by_is b.is (subst (λ (v : Tree). IsDoing g ds c es (line.In t k) [] label es (call_text (codes "in") (term_text true (named ds v) ∷ [])) (binding_texts ds b.bindings)) (sym a.same)
-      (subst (λ (v : List (List ℕ)). IsDoing g ds c es (line.In t k) [] label es (call_text (codes "in") (term_text true (named ds u) ∷ [])) v) (bound_told ds n σ (does.Takes a.term true) x b) (told.inputs_on t k σ run e messages same)))
+      by_is b.is (subst (λ (v : Tree). IsDoing g ds c es (line.In t k) [] label es (taken_on ds v) (binding_texts ds b.bindings)) (sym a.same)
+      (subst (λ (v : List (List ℕ)). IsDoing g ds c es (line.In t k) [] label es (taken_on ds u) v) (bound_told ds n σ (does.Takes a.term true) x b) (told.inputs_on t k σ run e messages same)))
 
   pub does_meets : {g : Sig} {c d : Config} {es fs : List Tree} → MatchesExactly g c es → (s t : ℕ) (k f : Form) (x : Doing) → HasHead c s k → HasHead c t f → IsMetBy (equations g) k f x → DoesHere g c es d fs (line.Sync s t) x
   does_meets {g = g} {c = c} {es = es} exact s t k f x j h y ds inner label (lines.meets {m = m} {n = n} {l = l} {r = r} {p = p} {q = q} _ _ σ run_s run_t chan fits w) =
       let a = send_form k m n p j.first j.second (one_thread c s (form_proc k j.first j.second) (act (action.send m n) p) j.runs run_s) in
       let i = recv_form f l r q h.first h.second (one_thread c t (form_proc f h.first h.second) (act (action.receive l r) q) h.runs run_t) in
       let o = y a.left a.right i.left i.right a.form i.form in
-      let first : IsNormalForm (equations g) m (tree o.0) = subst (λ (v : Tree). IsNormalForm (equations g) v (tree o.0)) a.left_is o.2 in
-      let second : IsNormalForm (equations g) n (tree o.1) = subst (λ (v : Tree). IsNormalForm (equations g) v (tree o.1)) a.right_is o.3 in
-      let there = turned g σ r (tree o.1) fits.messages (All-head (IsPattern (equations g)) r [] (exact.patterns_are t (act (action.receive l r) q) run_t)) second.normal (laws.kept.onwards (equations g) (instance σ r) n (tree o.1) fits.equal second.equal) in
-      let fitted : IsFitted r (tree o.1) (does.Meets o.0 o.1) x = subst (λ (v : Tree). IsFitted v (tree o.1) (does.Meets o.0 o.1) x) i.right_is o.4 in
-      let b = bound_as σ r (tree o.1) (does.Meets o.0 o.1) x (recv_sorts h i) there fitted in
-      by_is b.is (subst (λ (v : List (List ℕ)). IsDoing g ds c es (line.Sync s t) [] [] es (call_text (codes "out") (term_told ds (tree o.0) ∷ term_told ds (tree o.1) ∷ [])) v) (bound_told ds r σ (does.Meets o.0 o.1) x b) (told.meets s t σ run_s run_t first second fits))
+      let first : IsNormalForm (equations g) m (tree o.channel) = subst (λ (v : Tree). IsNormalForm (equations g) v (tree o.channel)) a.left_is o.channel_form in
+      let second : IsNormalForm (equations g) n (tree o.message) = subst (λ (v : Tree). IsNormalForm (equations g) v (tree o.message)) a.right_is o.message_form in
+      let K : List Binding → Doing = does.Meets o.standing o.channel o.message in
+      let there = turned g σ r (tree o.message) fits.messages (All-head (IsPattern (equations g)) r [] (exact.patterns_are t (act (action.receive l r) q) run_t)) second.normal (laws.kept.onwards (equations g) (instance σ r) n (tree o.message) fits.equal second.equal) in
+      let fitted : IsFitted r (tree o.message) K x = subst (λ (v : Tree). IsFitted v (tree o.message) K x) i.right_is o.fitted in
+      let b = bound_as σ r (tree o.message) K x (recv_sorts h i) there fitted in
+      by_is b.is (two_moved (λ v u. IsDoing g ds c es (line.Sync s t) [] [] es (said_out ds (v ∷ u ∷ []) (tree o.channel ∷ tree o.message ∷ [])) (binding_texts ds b.bindings)) (ap tree o.left_stands ∙ a.left_is) (ap tree o.right_stands ∙ a.right_is)
+      (subst (λ (v : List (List ℕ)). IsDoing g ds c es (line.Sync s t) [] [] es (said_out ds (m ∷ n ∷ []) (tree o.channel ∷ tree o.message ∷ [])) v) (bound_told ds r σ K x b) (told.meets s t σ run_s run_t first second fits)))

@@ -14,7 +14,7 @@ use Rattle.sap_terms.specs.Equations.{equations}
 use Rattle.sap_terms.specs.Signature.{Sig}
 use Rattle.sap_terms.specs.declared.binding.Binding.{Binding}
 use Rattle.sap_terms.specs.declared.fact.Fact.{Fact}
-use Rattle.sap_teller.specs.code.Heads.{form_at, IsBefore, Does, IsFoundOut, IsMade, IsCompared, IsInserted, IsDeleted, IsLooked, IsLocked, IsUnlocked, IsMetBy, IsOfEntry, AreOfEntries, IsTakenAt, IsUsedAt}
+use Rattle.sap_teller.specs.code.Heads.{form_at, IsBefore, Does, IsFoundOut, IsMade, IsCompared, IsInserted, IsDeleted, IsLooked, IsLocked, IsUnlocked, IsMetBy, IsOfEntry, IsSentBy, IsSentOnBy, IsShownBy, IsTakenAt, IsUsedAt}
 use Rattle.sap_teller.specs.declared.before.Before.{Before}
 use Rattle.sap_teller.specs.declared.doing.Doing.{Doing}
 use Rattle.sap_teller.specs.declared.doing.Doing.TheVariants as does
@@ -46,20 +46,11 @@ module _ (laws : Laws) (kept : Before) (z : Running) (x : Doing) where
   pub found_copies : (t : ℕ) → x ≡ does.Copies kept.threads → IsFoundOut kept z (line.Rep t) x
   found_copies t e r sig exact b = subst (Does r z (line.Rep t)) (sym e) (does_copies t kept.threads b.threads)
 
-  pub found_shows : (t : ℕ) → x ≡ does.Shows → IsFoundOut kept z (line.Event t) x
-  found_shows t e r sig exact b = subst (Does r z (line.Event t)) (sym e) (does_shows t)
-
   pub found_names : (n : ℕ) → x ≡ does.Names n → IsFoundOut kept z (line.Name n) x
   found_names n e r sig exact b = subst (Does r z (line.Name n)) (sym e) (does_names n)
 
   pub found_writes : (a : Bor (List ℕ)) → x ≡ does.Writes a → IsFoundOut kept z (line.Public a.now) x
   found_writes a e r sig exact b = subst (Does r z (line.Public a.now)) (sym e) (does_writes a)
-
-  pub found_sends : (t : ℕ) → IsOfEntry (terms_of z.known) kept.entries does.Sends x → IsFoundOut kept z (line.Out t) x
-  found_sends t h r sig exact b = does_sends t kept.entries x (entries_count r (line.Out t) b) h
-
-  pub found_sends_on : (t k : ℕ) → AreOfEntries (terms_of z.known) k kept.entries does.SendsOn x → IsFoundOut kept z (line.Send t k) x
-  found_sends_on t k h r sig exact b = does_sends_on t k kept.entries x (entries_count r (line.Send t k) b) h
 
   pub found_knows : (k : ℕ) → IsOfEntry (terms_of z.known) k does.Gives x → IsFoundOut kept z (line.Know k) x
   found_knows k h r sig exact b = does_knows k x h
@@ -71,6 +62,15 @@ module _ (laws : Laws) (kept : Before) (z : Running) (x : Doing) where
   module _ (f : Form) (here : form_at kept.head ≡ f) where
     pub found_made : (t n : ℕ) → IsMade n f x → IsFoundOut kept z (line.New t n) x
     found_made t n h r sig exact b = by_head x t kept.head f here refl b.head (λ k. does_made t n f x k h)
+
+    pub found_shows : (t : ℕ) → IsShownBy f x → IsFoundOut kept z (line.Event t) x
+    found_shows t h r sig exact b = by_head x t kept.head f here refl b.head (λ k. does_shows t f x k h)
+
+    pub found_sends : (t : ℕ) → IsSentBy (terms_of z.known) kept.entries f x → IsFoundOut kept z (line.Out t) x
+    found_sends t h r sig exact b = by_head x t kept.head f here refl b.head (λ k. does_sends t kept.entries f x (entries_count r (line.Out t) b) k h)
+
+    pub found_sends_on : (t k : ℕ) → IsSentOnBy (terms_of z.known) k kept.entries f x → IsFoundOut kept z (line.Send t k) x
+    found_sends_on t k h r sig exact b = by_head x t kept.head f here refl b.head (λ j. does_sends_on t k kept.entries f x (entries_count r (line.Send t k) b) j h)
 
     pub found_takes : (t k : ℕ) → IsTakenAt (terms_of z.known) k f x → IsFoundOut kept z (line.In t k) x
     found_takes t k h r sig exact b = by_head x t kept.head f here refl b.head (λ j. does_takes laws exact t k f x j h)

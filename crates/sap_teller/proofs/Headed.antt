@@ -38,14 +38,14 @@ runs_some t (lines.ends s r) e = absurd (cc)
 runs_some t (lines.splits s r) e = absurd (cc)
 runs_some t (lines.copies s r) e = absurd (cc)
 runs_some {c = c} t (lines.makes_name s n r u) e = somebody c s t _ r e
-runs_some t (lines.outputs s r f w) e = absurd (cc)
-runs_some t (lines.outputs_on s k r i f h w) e = absurd (cc)
+runs_some {c = c} t (lines.outputs s r f w) e = somebody c s t _ r e
+runs_some {c = c} t (lines.outputs_on s k r i f h w) e = somebody c s t _ r e
 runs_some {c = c} t (lines.inputs s k σ r i f) e = somebody c s t _ r e
 runs_some {c = c} t (lines.inputs_on s k σ r i m q w) e = somebody c s t _ r e
 runs_some {c = c} t (lines.meets s u σ q r i f w) e = somebody c u t _ r e
 runs_some {c = c} t (lines.agrees s r f u i w) e = somebody c s t _ r e
 runs_some {c = c} t (lines.differs s r f u i w) e = somebody c s t _ r e
-runs_some t (lines.shows s r f w) e = absurd (cc)
+runs_some {c = c} t (lines.shows s r f w) e = somebody c s t _ r e
 runs_some {c = c} t (lines.inserts s r f u w) e = somebody c s t _ r e
 runs_some {c = c} t (lines.deletes s r f w) e = somebody c s t _ r e
 runs_some {c = c} t (lines.finds s r f i w) e = somebody c s t _ r e

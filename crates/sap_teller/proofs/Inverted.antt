@@ -32,6 +32,14 @@ pub in_form : (f : Form) (n : Tree) (p a b : Proc) → form_proc f a b ≡ act (
 in_form (form.In t) n p a b e = record { term = t; form = refl; is = cc }
 in_form _ n p a b e = absurd (cc)
 
+pub out_form : (f : Form) (n : Tree) (p a b : Proc) → form_proc f a b ≡ act (action.out n) p → IsOne f form.Out n
+out_form (form.Out t) n p a b e = record { term = t; form = refl; is = cc }
+out_form _ n p a b e = absurd (cc)
+
+pub event_form : (f : Form) (e : Fact) (p a b : Proc) → form_proc f a b ≡ act (action.event e) p → f ≡ form.Event e
+event_form (form.Event h) e p a b k = let same : h ≡ e = cc in ap form.Event same
+event_form _ e p a b k = absurd (cc)
+
 pub recv_form : (f : Form) (m n : Tree) (p a b : Proc) → form_proc f a b ≡ act (action.receive m n) p → AreTwo f form.Recv m n
 recv_form (form.Recv t u) m n p a b e = record { left = t; right = u; form = refl; left_is = cc; right_is = cc }
 recv_form _ m n p a b e = absurd (cc)

@@ -5,9 +5,10 @@ mod Headed
 mod Found
 mod Kept
 mod Pieces
-mod Joins
+mod SaidPieces
 mod Seconds
 mod OneLine
 mod ToldRuns
 mod Plain
 mod Noted
+pub mod Acting

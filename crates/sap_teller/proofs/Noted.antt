@@ -2,7 +2,6 @@
 use Rattle.std.proofs.Common.{◌≡◌, ℕ, List, Option, Some, None, refl, sym, ap, ◌∙◌}
 use Rattle.std.specs.Global.{Box}
 use Rattle.sap_called.specs.Names.{Draw, draw, with_draw}
-use Rattle.sap_calc.specs.ThreadHeads.{HasHead}
 use Rattle.sap_lines.specs.Lines as lines
 use Rattle.sap_lines.specs.Lines.{IsProcessLine}
 use Rattle.sap_lines.specs.Places.{form_proc}

@@ -10,7 +10,7 @@ use Rattle.sap_terms.specs.declared.fact.Fact.{Fact}
 use Rattle.sap_teller.specs.Telling.{IsDoneAndTold, IsToldApart, IsToldOn}
 use Rattle.sap_tell.specs.Draws.{draws_after}
 use Rattle.sap_tell.specs.ThreadPaths.{paths_after}
-use Rattle.sap_tell.specs.ToldText.{actor_text, outcomes_text, seen_texts}
+use Rattle.sap_tell.specs.ToldText.{outcomes_text, seen_texts}
 use Rattle.sap_teller.specs.code.Doings.{action_of, outcomes_of}
 use Rattle.sap_teller.specs.code.Heads.{IsBefore, Does, added_by, form_at}
 use Rattle.sap_teller.specs.code.Lines.{apart_text, body_text, numbered_text}
@@ -34,8 +34,8 @@ module _ (r z : Running) (kept : Before) (step : PStep) (label : List Fact) (x :
   body_is : body_text ds label kept.entries (slice_get (terms_of z.known) kept.entries) x ≡ action_of ds label x ++ outcomes_text (seen_texts ds label (terms_of r.known) (terms_of z.known) ++ outcomes_of ds x)
   body_is = ap (λ os. action_of ds label x ++ outcomes_from true (os ++ outcomes_of ds x)) seen_here ∙ ap (λ t. action_of ds label x ++ t) (sym (outcomes_all (seen_texts ds label (terms_of r.known) (terms_of z.known) ++ outcomes_of ds x)))
 
-  pub told_line : (number : ℕ) (paths : List (List ℕ)) → IsDoneAndTold r z number paths ds step label (numbered_text number (actor_text paths step) ++ body_text ds label kept.entries (slice_get (terms_of z.known) kept.entries) x)
-  told_line number paths = record {
+  pub told_line : (number : ℕ) (who : List ℕ) → IsDoneAndTold r z number who ds step label (numbered_text number who ++ body_text ds label kept.entries (slice_get (terms_of z.known) kept.entries) x)
+  told_line number who = record {
     inner = h.inner;
     line = h.line;
     sig = h.sig;
@@ -43,8 +43,8 @@ module _ (r z : Running) (kept : Before) (step : PStep) (label : List Fact) (x :
       doing = action_of ds label x;
       outcomes = outcomes_of ds x;
       done = does ds h.inner label h.line;
-      written = four (decimal number) (codes ". ") (actor_text paths step) (codes ": ") (body_text ds label kept.entries (slice_get (terms_of z.known) kept.entries) x)
-          ∙ ap (λ t. decimal number ++ (codes ". " ++ (actor_text paths step ++ (codes ": " ++ t)))) body_is;
+      written = four (decimal number) (codes ". ") who (codes ": ") (body_text ds label kept.entries (slice_get (terms_of z.known) kept.entries) x)
+          ∙ ap (λ t. decimal number ++ (codes ". " ++ (who ++ (codes ": " ++ t)))) body_is;
     };
   }
 
@@ -53,14 +53,14 @@ module _ (r z : Running) (kept : Before) (step : PStep) (label : List Fact) (x :
   abbrev body : List Draw → List ℕ
   body ds = body_text ds label kept.entries (slice_get (terms_of z.known) kept.entries) x
 
-  pub told_on : (hs : List Draw) (a e : Along) (before first second after : List ℕ) → first ≡ before ++ numbered_text (a.lines + 1) (actor_text a.paths step) → second ≡ first ++ body_text hs label kept.entries (slice_get (terms_of z.known) kept.entries) x → after ≡ second ++ codes "\n"
-      → e.names ≡ hs → hs ≡ draws_after a.names (configuration r) step → e.paths ≡ paths_after a.paths step → e.lines ≡ a.lines + 1 → e.facts ≡ kept.facts + added_by step (form_at kept.head) → IsToldOn r z a e before after step label
-  told_on hs a e before first second after p q s same drawn paths lines facts =
-      let start = numbered_text (a.lines + 1) (actor_text a.paths step) in
+  pub told_on : (hs : List Draw) (a e : Along) (who before first second after : List ℕ) → first ≡ before ++ numbered_text (a.lines + 1) who → second ≡ first ++ body_text hs label kept.entries (slice_get (terms_of z.known) kept.entries) x → after ≡ second ++ codes "\n"
+      → e.names ≡ hs → hs ≡ draws_after a.names (configuration r) step → e.paths ≡ paths_after a.paths step → e.lines ≡ a.lines + 1 → e.facts ≡ kept.facts + added_by step (form_at kept.head) → IsToldOn r z a e who before after step label
+  told_on hs a e who before first second after p q s same drawn paths lines facts =
+      let start = numbered_text (a.lines + 1) who in
       let there : second ≡ first ++ body e.names = q ∙ ap (λ ds. first ++ body ds) (sym same) in
       record {
         told = start ++ body e.names;
-        done = told_line r z kept step label x b h does e.names (a.lines + 1) a.paths;
+        done = told_line r z kept step label x b h does e.names (a.lines + 1) who;
         text = s ∙ ap (λ t. t ++ codes "\n") (there ∙ ap (λ t. t ++ body e.names) p ∙ append_assoc before start (body e.names)) ∙ append_assoc before (start ++ body e.names) (codes "\n");
         paths = paths;
         names = same ∙ drawn;
@@ -69,15 +69,15 @@ module _ (r z : Running) (kept : Before) (step : PStep) (label : List Fact) (x :
       }
 
   -- the same where the line feed is missing and what it does is told apart
-  pub apart_on : (hs : List Draw) (a e : Along) (before first second apart_before apart_after : List ℕ) → first ≡ before ++ numbered_text (a.lines + 1) (actor_text a.paths step) → second ≡ first ++ body_text hs label kept.entries (slice_get (terms_of z.known) kept.entries) x → apart_after ≡ apart_before ++ apart_text hs label x
-      → e.names ≡ hs → hs ≡ draws_after a.names (configuration r) step → e.paths ≡ paths_after a.paths step → e.lines ≡ a.lines + 1 → e.facts ≡ kept.facts + added_by step (form_at kept.head) → IsToldApart r z a e before second apart_before apart_after step label
+  pub apart_on : (hs : List Draw) (a e : Along) (who before first second apart_before apart_after : List ℕ) → first ≡ before ++ numbered_text (a.lines + 1) who → second ≡ first ++ body_text hs label kept.entries (slice_get (terms_of z.known) kept.entries) x → apart_after ≡ apart_before ++ apart_text hs label x
+      → e.names ≡ hs → hs ≡ draws_after a.names (configuration r) step → e.paths ≡ paths_after a.paths step → e.lines ≡ a.lines + 1 → e.facts ≡ kept.facts + added_by step (form_at kept.head) → IsToldApart r z a e who before second apart_before apart_after step label
   unfolding told_line
-  apart_on hs a e before first second apart_before apart_after p q s same drawn paths lines facts =
-      let start = numbered_text (a.lines + 1) (actor_text a.paths step) in
+  apart_on hs a e who before first second apart_before apart_after p q s same drawn paths lines facts =
+      let start = numbered_text (a.lines + 1) who in
       let there : second ≡ first ++ body e.names = q ∙ ap (λ ds. first ++ body ds) (sym same) in
       record {
         told = start ++ body e.names;
-        done = told_line r z kept step label x b h does e.names (a.lines + 1) a.paths;
+        done = told_line r z kept step label x b h does e.names (a.lines + 1) who;
         text = there ∙ ap (λ t. t ++ body e.names) p ∙ append_assoc before start (body e.names);
         apart = s ∙ ap (λ ds. apart_before ++ apart_text ds label x) (sym same) ∙ ap (λ t. apart_before ++ (action_of e.names label x ++ t)) (sym (outcomes_all (outcomes_of e.names x)));
         paths = paths;

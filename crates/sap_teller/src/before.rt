@@ -28,9 +28,11 @@ fn head_of(step: &PStep) -> Option<u64>
     ensures { result ≡ head_of step.now }
 {
     match step {
-        PStep::New(t, _) | PStep::In(t, _) | PStep::Sync(_, t) => Some(*t),
+        PStep::New(t, _) | PStep::In(t, _) | PStep::Sync(_, t) | PStep::Send(t, _) => Some(*t),
         PStep::Embedded(t, _, _) => Some(*t),
-        PStep::Then(t)
+        PStep::Out(t)
+        | PStep::Event(t)
+        | PStep::Then(t)
         | PStep::Else(t)
         | PStep::Insert(t)
         | PStep::Delete(t)

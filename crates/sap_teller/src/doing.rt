@@ -1,21 +1,25 @@
-//! What a line does, with its terms evaluated, and its text.
-ghost use Rattle.std.specs.Prelude.{◌≡◌, ◌++◌, IfOk, OnOk, codes, decimal, map, true};
-ghost use Rattle.sap_called.specs.NamedTerms.{named, named_facts};
+//! What a line does, with its terms as they stand and evaluated, and its text.
+ghost use Rattle.std.specs.Prelude.{◌≡◌, ◌++◌, OnOk, codes, decimal, map};
+ghost use Rattle.sap_called.specs.NamedTerms.{named_facts};
 ghost use Rattle.sap_grammar.specs.FactText.{facts_text, arrow_text};
 ghost use Rattle.sap_grammar.specs.Pieces.{joined};
-ghost use Rattle.sap_grammar.specs.TermText.{term_text, variable_text};
+ghost use Rattle.sap_grammar.specs.TermText.{variable_text};
+ghost use Rattle.sap_tell.specs.Said.{applied_text};
 ghost use Rattle.sap_tell.specs.ToldText.{term_told};
 ghost use Rattle.sap_terms.specs.Tree.{fresh};
 ghost use Rattle.sap_terms.specs.View.{tree};
-ghost use Rattle.sap_teller.specs.code.Doings.{action_of};
-ghost use Rattle.sap_teller.specs.declared.doing.Doing.TheVariants as does;
+ghost use Rattle.sap_teller.specs.code.Doings.{action_of, event_text, taken_text};
 
-use sap_called::{Names, push_arrow, push_fact, push_facts, push_name, push_open_term, push_term};
+use crate::said::{
+    Two, push_compared, push_event, push_inserted, push_looked, push_sent, push_sent_on,
+    push_taken_on, push_word_said,
+};
+use sap_called::{Names, push_arrow, push_facts, push_name, push_term};
 use sap_grammar::{push_public, push_separator, push_variable};
-use sap_terms::{Bindings, FactList, Mem, Name, Numbers, Term, Var};
+use sap_terms::{Bindings, Fact, FactList, Mem, Name, Numbers, Term, Var};
 use sap_text::Text;
 
-/// What a line does, with its terms evaluated. What stands elsewhere is lent.
+/// What a line does, with its terms as they stand and then evaluated. What stands elsewhere is lent.
 #[derive(Drop)]
 pub(crate) enum Doing<'a> {
     /// A thread ends.
@@ -27,27 +31,27 @@ pub(crate) enum Doing<'a> {
     /// A name is made for a variable.
     Makes(&'a Var, u64),
     /// An entry is put out.
-    Sends(&'a Term),
+    Sends(&'a Term, &'a Term),
     /// An entry is put out on the channel that another is.
-    SendsOn(&'a Term, &'a Term),
+    SendsOn(Two<'a>, Two<'a>),
     /// A term is sent on a channel, and what another thread binds by it.
-    Meets(Term, Term, Bindings),
+    Meets(Two<'a>, Term, Term, Bindings),
     /// An entry is taken, whether it is a pair of a channel and what comes on it, and what is bound by it.
     Takes(&'a Term, bool, Bindings),
     /// Terms are compared, and whether they are one.
-    Compares(Term, Term, bool),
+    Compares(Two<'a>, Term, Term, bool),
     /// A fact is shown.
-    Shows,
+    Shows(&'a Fact),
     /// Nothing: the line isn't possible.
     Nothing,
     /// A value is stored at a key.
-    Inserts(Term, Term),
+    Inserts(Two<'a>, Term, Term),
     /// A key is cleared.
-    Deletes(Term),
+    Deletes(&'a Term, Term),
     /// A key is looked up, for a variable, and what is found.
-    Looks(Term, &'a Var, Option<&'a Term>),
+    Looks(&'a Term, Term, &'a Var, Option<&'a Term>),
     /// A term is locked, or unlocked.
-    Holds(Term, bool),
+    Holds(&'a Term, Term, bool),
     /// A rule is used: what it takes and adds, and what its variables stand for.
     Uses(&'a FactList, FactList, Bindings, &'a Bindings),
     /// The adversary makes a name.
@@ -60,30 +64,20 @@ pub(crate) enum Doing<'a> {
     Applies(&'a Name, &'a Numbers, &'a Term),
 }
 
+// Two terms.
+pub(crate) fn two<'a>(left: &'a Term, right: &'a Term) -> Two<'a>
+    ensures left { result.left.now ≡ left.now }
+    ensures right { result.right.now ≡ right.now }
+{
+    Two { left, right }
+}
+
 // A word, and a term behind it.
 fn push_word(text: &mut Text, names: &Names, word: &[u8], x: &Term) -> Result<(), Mem>
     ensures { OnOk result (text.new ≡ text.old ++ (word.now ++ term_told names.now (tree x.now))) }
 {
     text.push_bytes(word)?;
     push_term(text, names, x)
-}
-
-// A word and two terms, with something between them.
-fn push_two(
-    text: &mut Text,
-    names: &Names,
-    word: &[u8],
-    x: &Term,
-    between: &[u8],
-    y: &Term,
-) -> Result<(), Mem>
-    ensures { OnOk result (text.new ≡ text.old
-        ++ (word.now ++ (term_told names.now (tree x.now) ++ (between.now ++ term_told names.now (tree y.now))))) }
-{
-    text.push_bytes(word)?;
-    push_term(text, names, x)?;
-    text.push_bytes(between)?;
-    push_term(text, names, y)
 }
 
 // A name that is made for a variable.
@@ -94,64 +88,25 @@ fn push_made(text: &mut Text, x: &Var) -> Result<(), Mem>
     push_variable(text, x)
 }
 
-// What is put out.
-fn push_sent(text: &mut Text, names: &Names, x: &Term) -> Result<(), Mem>
-    ensures { OnOk result (text.new ≡ text.old ++ (codes "out(" ++ (term_told names.now (tree x.now) ++ codes ")"))) }
+// What is taken, whether it is a pair of a channel and what comes on it.
+fn push_taken(text: &mut Text, names: &Names, x: &Term, is_pair: bool) -> Result<(), Mem>
+    ensures { OnOk result (text.new ≡ text.old ++ taken_text names.now (tree x.now) is_pair) }
 {
-    push_word(text, names, b"out(", x)?;
-    text.push_byte(b')')
-}
-
-// What is sent on a channel.
-fn push_sent_on(text: &mut Text, names: &Names, x: &Term, u: &Term) -> Result<(), Mem>
-    ensures { OnOk result (text.new ≡ text.old
-        ++ (codes "out(" ++ (term_told names.now (tree x.now) ++ (codes "," ++ (term_told names.now (tree u.now) ++ codes ")"))))) }
-{
-    push_two(text, names, b"out(", x, b",", u)?;
-    text.push_byte(b')')
-}
-
-// A term, open or not.
-fn push_either(text: &mut Text, names: &Names, x: &Term, is_open: bool) -> Result<(), Mem>
-    ensures { OnOk result (text.new ≡ text.old ++ term_text is_open (named names.now (tree x.now))) }
-{
-    if is_open {
-        push_open_term(text, names, x)
-    } else {
-        push_term(text, names, x)
+    if is_pair {
+        return push_taken_on(text, names, x);
     }
-}
-
-// What is taken.
-fn push_taken(text: &mut Text, names: &Names, x: &Term, is_open: bool) -> Result<(), Mem>
-    ensures { OnOk result (text.new ≡ text.old ++ (codes "in(" ++ (term_text is_open (named names.now (tree x.now)) ++ codes ")"))) }
-{
-    text.push_bytes(b"in(")?;
-    push_either(text, names, x, is_open)?;
+    push_word(text, names, b"in(", x)?;
     text.push_byte(b')')
 }
 
-// The fact of an event.
-fn push_event(text: &mut Text, names: &Names, label: &FactList) -> Result<(), Mem>
-    ensures { OnOk result (text.new ≡ text.old ++ action_of names.now label.now does.Shows) }
+// The fact of an event, as it stands and as it is shown.
+fn push_shown(text: &mut Text, names: &Names, label: &FactList, f: &Fact) -> Result<(), Mem>
+    ensures { OnOk result (text.new ≡ text.old ++ event_text names.now f.now label.now) }
 {
     match label.get(0) {
         None => Ok(()),
-        Some(f) => {
-            text.push_bytes(b"event ")?;
-            push_fact(text, names, f)
-        }
+        Some(h) => push_event(text, names, f, h),
     }
-}
-
-// A key that is looked up for a variable.
-fn push_looked(text: &mut Text, names: &Names, k: &Term, x: &Var) -> Result<(), Mem>
-    ensures { OnOk result (text.new ≡ text.old
-        ++ (codes "lookup " ++ (term_told names.now (tree k.now) ++ (codes " as " ++ variable_text x.now)))) }
-{
-    push_word(text, names, b"lookup ", k)?;
-    text.push_bytes(b" as ")?;
-    push_variable(text, x)
 }
 
 // A rule that is used.
@@ -188,7 +143,7 @@ fn push_numbers(text: &mut Text, numbers: &Numbers) -> Result<(), Mem>
     Ok(())
 }
 
-// A symbol on entries, and what it gives.
+// A symbol on entries, and what it gives; a constant alone.
 fn push_applied(
     text: &mut Text,
     names: &Names,
@@ -196,10 +151,12 @@ fn push_applied(
     numbers: &Numbers,
     x: &Term,
 ) -> Result<(), Mem>
-    ensures { OnOk result (text.new ≡ text.old ++ (f.now
-        ++ (codes "(" ++ (joined (codes ",") (map decimal numbers.now) ++ (codes ") = " ++ term_told names.now (tree x.now)))))) }
+    ensures { OnOk result (text.new ≡ text.old ++ applied_text names.now f.now numbers.now (tree x.now)) }
 {
     text.push_bytes(f.as_bytes())?;
+    if numbers.len() == 0 {
+        return Ok(());
+    }
     text.push_byte(b'(')?;
     push_numbers(text, numbers)?;
     push_word(text, names, b") = ", x)
@@ -219,18 +176,18 @@ pub(crate) fn push_action(
         Doing::Splits(_) => text.push_byte(b'|'),
         Doing::Copies(_) => text.push_byte(b'!'),
         Doing::Makes(x, _) => push_made(text, x),
-        Doing::Sends(x) => push_sent(text, names, x),
-        Doing::SendsOn(x, u) => push_sent_on(text, names, x, u),
-        Doing::Meets(x, u, _) => push_sent_on(text, names, x, u),
+        Doing::Sends(m, x) => push_sent(text, names, m, x),
+        Doing::SendsOn(stands, is) => push_sent_on(text, names, *stands, *is),
+        Doing::Meets(stands, x, u, _) => push_sent_on(text, names, *stands, two(x, u)),
         Doing::Takes(x, pair, _) => push_taken(text, names, x, *pair),
-        Doing::Compares(x, y, _) => push_two(text, names, b"if ", x, b" = ", y),
-        Doing::Shows => push_event(text, names, label),
+        Doing::Compares(stands, x, y, _) => push_compared(text, names, *stands, two(x, y)),
+        Doing::Shows(f) => push_shown(text, names, label, f),
         Doing::Nothing => Ok(()),
-        Doing::Inserts(k, v) => push_two(text, names, b"insert ", k, b", ", v),
-        Doing::Deletes(k) => push_word(text, names, b"delete ", k),
-        Doing::Looks(k, x, _) => push_looked(text, names, k, x),
-        Doing::Holds(k, true) => push_word(text, names, b"lock ", k),
-        Doing::Holds(k, false) => push_word(text, names, b"unlock ", k),
+        Doing::Inserts(stands, k, v) => push_inserted(text, names, *stands, two(k, v)),
+        Doing::Deletes(m, k) => push_word_said(text, names, b"delete ", m, k),
+        Doing::Looks(m, k, x, _) => push_looked(text, names, m, k, x),
+        Doing::Holds(m, k, true) => push_word_said(text, names, b"lock ", m, k),
+        Doing::Holds(m, k, false) => push_word_said(text, names, b"unlock ", m, k),
         Doing::Uses(left, right, _, _) => push_used(text, names, left, label, right),
         Doing::Names(n) => push_named(text, names, *n),
         Doing::Writes(a) => push_public(text, a),

@@ -5,10 +5,11 @@ ghost use Rattle.sap_terms.specs.Equations.{equations, app2, pair_name};
 ghost use Rattle.sap_terms.specs.Normal.{IsNormalForm};
 ghost use Rattle.sap_terms.specs.Tree.{Tree};
 ghost use Rattle.sap_terms.specs.View.{tree};
-ghost use Rattle.sap_teller.specs.code.Heads.{form_of, IsCompared, IsDeleted, IsFitted, IsInserted, IsLocked, IsLooked, IsMade, IsMetBy, IsTakenBy, IsUnlocked, IsUsedBy, together};
+ghost use Rattle.sap_teller.specs.code.Heads.{form_of, IsCompared, IsDeleted, IsFitted, IsInserted, IsLocked, IsLooked, IsMade, IsMetBy, IsShownBy, IsTakenBy, IsUnlocked, IsUsedBy, together};
 ghost use Rattle.sap_teller.specs.declared.doing.Doing.TheVariants as does;
 
-use crate::doing::Doing;
+use crate::doing::{Doing, two};
+use crate::said::Two;
 use sap_heads::terms_of_facts;
 use sap_lines::Form;
 use sap_rewrite::{match_pattern, normal};
@@ -65,7 +66,7 @@ pub(crate) fn made<'a>(alloc: Global, n: u64, form: Option<&'a Form>) -> Result<
 pub(crate) fn compared<'a>(
     alloc: Global,
     sig: &Signature,
-    form: Option<&Form>,
+    form: Option<&'a Form>,
     same: bool,
 ) -> Result<Box<Doing<'a>>, Mem>
     ensures { IfOk result (λ x. IsCompared (equations sig.now) same (form_of form.entry) x.value) }
@@ -73,7 +74,7 @@ pub(crate) fn compared<'a>(
     match form {
         Some(Form::If(m, n)) => {
             let (a, b) = two_forms(alloc, sig, m, n)?;
-            boxed(alloc, Doing::Compares(a, b, same))
+            boxed(alloc, Doing::Compares(two(m, n), a, b, same))
         }
         _ => nothing(alloc),
     }
@@ -83,14 +84,14 @@ pub(crate) fn compared<'a>(
 pub(crate) fn inserted<'a>(
     alloc: Global,
     sig: &Signature,
-    form: Option<&Form>,
+    form: Option<&'a Form>,
 ) -> Result<Box<Doing<'a>>, Mem>
     ensures { IfOk result (λ x. IsInserted (equations sig.now) (form_of form.entry) x.value) }
 {
     match form {
         Some(Form::Insert(m, n)) => {
             let (a, b) = two_forms(alloc, sig, m, n)?;
-            boxed(alloc, Doing::Inserts(a, b))
+            boxed(alloc, Doing::Inserts(two(m, n), a, b))
         }
         _ => nothing(alloc),
     }
@@ -100,12 +101,12 @@ pub(crate) fn inserted<'a>(
 pub(crate) fn deleted<'a>(
     alloc: Global,
     sig: &Signature,
-    form: Option<&Form>,
+    form: Option<&'a Form>,
 ) -> Result<Box<Doing<'a>>, Mem>
     ensures { IfOk result (λ x. IsDeleted (equations sig.now) (form_of form.entry) x.value) }
 {
     match form {
-        Some(Form::Delete(m)) => boxed(alloc, Doing::Deletes(evaluated(alloc, sig, m)?)),
+        Some(Form::Delete(m)) => boxed(alloc, Doing::Deletes(m, evaluated(alloc, sig, m)?)),
         _ => nothing(alloc),
     }
 }
@@ -122,7 +123,7 @@ pub(crate) fn looked<'a>(
     match form {
         Some(Form::Lookup(m, v)) => {
             let key = evaluated(alloc, sig, m)?;
-            boxed(alloc, Doing::Looks(key, v, found))
+            boxed(alloc, Doing::Looks(m, key, v, found))
         }
         _ => nothing(alloc),
     }
@@ -132,12 +133,12 @@ pub(crate) fn looked<'a>(
 pub(crate) fn locked<'a>(
     alloc: Global,
     sig: &Signature,
-    form: Option<&Form>,
+    form: Option<&'a Form>,
 ) -> Result<Box<Doing<'a>>, Mem>
     ensures { IfOk result (λ x. IsLocked (equations sig.now) (form_of form.entry) x.value) }
 {
     match form {
-        Some(Form::Lock(m, _)) => boxed(alloc, Doing::Holds(evaluated(alloc, sig, m)?, true)),
+        Some(Form::Lock(m, _)) => boxed(alloc, Doing::Holds(m, evaluated(alloc, sig, m)?, true)),
         _ => nothing(alloc),
     }
 }
@@ -146,12 +147,12 @@ pub(crate) fn locked<'a>(
 pub(crate) fn unlocked<'a>(
     alloc: Global,
     sig: &Signature,
-    form: Option<&Form>,
+    form: Option<&'a Form>,
 ) -> Result<Box<Doing<'a>>, Mem>
     ensures { IfOk result (λ x. IsUnlocked (equations sig.now) (form_of form.entry) x.value) }
 {
     match form {
-        Some(Form::Unlock(m, _)) => boxed(alloc, Doing::Holds(evaluated(alloc, sig, m)?, false)),
+        Some(Form::Unlock(m, _)) => boxed(alloc, Doing::Holds(m, evaluated(alloc, sig, m)?, false)),
         _ => nothing(alloc),
     }
 }
@@ -213,14 +214,19 @@ pub(crate) fn taken<'a>(
 }
 
 // What is sent, behind its channel, and what binds who takes it by the pattern.
-fn met_by<'a>(alloc: Global, p: &Term, sent: Box<(Term, Term)>) -> Result<Box<Doing<'a>>, Mem>
-    ensures { IfOk result (λ r. IsFitted (tree p.now) (tree sent.value.1) (does.Meets sent.value.0 sent.value.1) r.value) }
+fn met_by<'a>(
+    alloc: Global,
+    p: &Term,
+    stands: Two<'a>,
+    sent: Box<(Term, Term)>,
+) -> Result<Box<Doing<'a>>, Mem>
+    ensures { IfOk result (λ r. IsFitted (tree p.now) (tree sent.value.1) (does.Meets stands.entry sent.value.0 sent.value.1) r.value) }
 {
     match bound_to(alloc, p, &sent.1)? {
         None => nothing(alloc),
         Some(b) => {
             let (channel, message) = Box::into_inner(sent);
-            boxed(alloc, Doing::Meets(channel, message, b))
+            boxed(alloc, Doing::Meets(stands, channel, message, b))
         }
     }
 }
@@ -229,7 +235,7 @@ fn met_by<'a>(alloc: Global, p: &Term, sent: Box<(Term, Term)>) -> Result<Box<Do
 pub(crate) fn met<'a>(
     alloc: Global,
     sig: &Signature,
-    sender: Option<&Form>,
+    sender: Option<&'a Form>,
     form: Option<&Form>,
 ) -> Result<Box<Doing<'a>>, Mem>
     ensures { IfOk result (λ r. IsMetBy (equations sig.now) (form_of sender.entry) (form_of form.entry) r.value) }
@@ -237,10 +243,21 @@ pub(crate) fn met<'a>(
     match sender {
         Some(Form::Send(m, n)) => match form {
             Some(Form::Recv(_, p)) => {
-                met_by(alloc, p, boxed(alloc, two_forms(alloc, sig, m, n)?)?)
+                let sent = boxed(alloc, two_forms(alloc, sig, m, n)?)?;
+                met_by(alloc, p, two(m, n), sent)
             }
             _ => nothing(alloc),
         },
+        _ => nothing(alloc),
+    }
+}
+
+// An event is shown.
+pub(crate) fn shown<'a>(alloc: Global, form: Option<&'a Form>) -> Result<Box<Doing<'a>>, Mem>
+    ensures { IfOk result (λ x. IsShownBy (form_of form.entry) x.value) }
+{
+    match form {
+        Some(Form::Event(f)) => boxed(alloc, Doing::Shows(f)),
         _ => nothing(alloc),
     }
 }

@@ -6,14 +6,14 @@ ghost use Rattle.sap_facts.specs.Cited.{cited_at};
 ghost use Rattle.sap_terms.specs.Equations.{equations};
 ghost use Rattle.sap_terms.specs.View.{tree};
 ghost use Rattle.sap_terms.specs.declared.term.Term.TheVariants as term;
-ghost use Rattle.sap_teller.specs.code.Heads.{count_added, form_of, AreOfEntries, IsFoundOut, IsLooked, IsOfEntry, IsTakenAt, IsUsedAt};
+ghost use Rattle.sap_teller.specs.code.Heads.{count_added, form_of, IsFoundOut, IsLooked, IsOfEntry, IsSentBy, IsSentOnBy, IsTakenAt, IsUsedAt};
 ghost use Rattle.sap_teller.specs.code.LawsBelow.{Laws};
 ghost use Rattle.sap_teller.specs.declared.doing.Doing.TheVariants as does;
 
 use crate::before::{Before, lent};
-use crate::doing::Doing;
+use crate::doing::{Doing, two};
 use crate::finding::{
-    compared, deleted, inserted, locked, looked, made, met, nothing, taken, unlocked, used,
+    compared, deleted, inserted, locked, looked, made, met, nothing, shown, taken, unlocked, used,
 };
 use sap_calc::Config;
 use sap_lines::{Form, lines_have_one_answer};
@@ -27,13 +27,21 @@ use sap_terms::{
 };
 use std::alloc::Global;
 
-// The last entry is put out.
-fn sent<'a>(alloc: Global, config: &'a Config, k: u64) -> Result<Box<Doing<'a>>, Mem>
-    ensures { IfOk result (λ x. IsOfEntry (terms_of config.now.known) k does.Sends x.value) }
+// What is at the head is put out, as the last entry.
+fn sent<'a>(
+    alloc: Global,
+    config: &'a Config,
+    form: Option<&'a Form>,
+    k: u64,
+) -> Result<Box<Doing<'a>>, Mem>
+    ensures { IfOk result (λ x. IsSentBy (terms_of config.now.known) k (form_of form.entry) x.value) }
 {
-    match config.entry(k) {
-        None => nothing(alloc),
-        Some(t) => boxed(alloc, Doing::Sends(t)),
+    match form {
+        Some(Form::Out(m)) => match config.entry(k) {
+            None => nothing(alloc),
+            Some(t) => boxed(alloc, Doing::Sends(m, t)),
+        },
+        _ => nothing(alloc),
     }
 }
 
@@ -54,16 +62,25 @@ fn written<'a>(alloc: Global, a: &'a Name) -> Result<Box<Doing<'a>>, Mem>
     boxed(alloc, Doing::Writes(a))
 }
 
-// The last entry is put out on the channel that another is.
-fn sent_on<'a>(alloc: Global, config: &'a Config, k: u64, last: u64) -> Result<Box<Doing<'a>>, Mem>
-    ensures { IfOk result (λ x. AreOfEntries (terms_of config.now.known) k last does.SendsOn x.value) }
+// What is at the head is put out, as the last entry, on the channel that another is.
+fn sent_on<'a>(
+    alloc: Global,
+    config: &'a Config,
+    form: Option<&'a Form>,
+    k: u64,
+    last: u64,
+) -> Result<Box<Doing<'a>>, Mem>
+    ensures { IfOk result (λ x. IsSentOnBy (terms_of config.now.known) k last (form_of form.entry) x.value) }
 {
-    match config.entry(k) {
-        None => nothing(alloc),
-        Some(channel) => match config.entry(last) {
+    match form {
+        Some(Form::Send(m, n)) => match config.entry(k) {
             None => nothing(alloc),
-            Some(t) => boxed(alloc, Doing::SendsOn(channel, t)),
+            Some(channel) => match config.entry(last) {
+                None => nothing(alloc),
+                Some(t) => boxed(alloc, Doing::SendsOn(two(m, n), two(channel, t))),
+            },
         },
+        _ => nothing(alloc),
     }
 }
 
@@ -175,13 +192,13 @@ pub(crate) fn found_out<'a>(
         PStep::Par(_) => boxed(alloc, Doing::Splits(before.threads)),
         PStep::Rep(_) => boxed(alloc, Doing::Copies(before.threads)),
         PStep::New(_, n) => made(alloc, *n, head),
-        PStep::Out(_) => sent(alloc, config, before.entries),
-        PStep::Send(_, k) => sent_on(alloc, config, *k, before.entries),
+        PStep::Out(_) => sent(alloc, config, head, before.entries),
+        PStep::Send(_, k) => sent_on(alloc, config, head, *k, before.entries),
         PStep::In(_, k) => taken_at(alloc, config, head, *k),
         PStep::Sync(_, _) => met(alloc, sig, lent(&before.sender), head),
         PStep::Then(_) => compared(alloc, sig, head, true),
         PStep::Else(_) => compared(alloc, sig, head, false),
-        PStep::Event(_) => boxed(alloc, Doing::Shows),
+        PStep::Event(_) => shown(alloc, head),
         PStep::Insert(_) => inserted(alloc, sig, head),
         PStep::Delete(_) => deleted(alloc, sig, head),
         PStep::Found(_) => looked(alloc, sig, head, before.stored.as_ref()),

@@ -179,20 +179,20 @@ pub(crate) fn push_outcomes(
         Doing::Ends(t) => push_thread(text, first, *t, b" ends"),
         Doing::Splits(t) | Doing::Copies(t) => push_thread(text, first, *t, b" begins"),
         Doing::Makes(x, n) => push_made(text, names, first, x, *n),
-        Doing::Meets(_, _, b) | Doing::Takes(_, _, b) => push_bindings(text, names, first, b),
-        Doing::Compares(_, _, true) => push_words(text, first, b"then"),
-        Doing::Compares(_, _, false) => push_words(text, first, b"else"),
-        Doing::Looks(_, _, None) => push_words(text, first, b"nothing there"),
-        Doing::Looks(_, x, Some(v)) => push_bound(text, names, first, x, v),
-        Doing::Holds(k, true) => push_state(text, names, first, k, b" is held"),
-        Doing::Holds(k, false) => push_state(text, names, first, k, b" is free"),
+        Doing::Meets(_, _, _, b) | Doing::Takes(_, _, b) => push_bindings(text, names, first, b),
+        Doing::Compares(_, _, _, true) => push_words(text, first, b"then"),
+        Doing::Compares(_, _, _, false) => push_words(text, first, b"else"),
+        Doing::Looks(_, _, _, None) => push_words(text, first, b"nothing there"),
+        Doing::Looks(_, _, x, Some(v)) => push_bound(text, names, first, x, v),
+        Doing::Holds(_, k, true) => push_state(text, names, first, k, b" is held"),
+        Doing::Holds(_, k, false) => push_state(text, names, first, k, b" is free"),
         Doing::Uses(_, _, b, d) => push_all_bindings(text, names, first, b, d),
-        Doing::Sends(_)
+        Doing::Sends(_, _)
         | Doing::SendsOn(_, _)
-        | Doing::Shows
+        | Doing::Shows(_)
         | Doing::Nothing
-        | Doing::Inserts(_, _)
-        | Doing::Deletes(_)
+        | Doing::Inserts(_, _, _)
+        | Doing::Deletes(_, _)
         | Doing::Names(_)
         | Doing::Writes(_)
         | Doing::Gives(_)

@@ -17,7 +17,7 @@ use sap_calc::Config;
 use sap_called::Names;
 use sap_lines::{Form, PFault};
 use sap_runs::PStep;
-use sap_tell::{ThreadPaths, push_actor};
+use sap_tell::ThreadPaths;
 use sap_terms::{FactList, Mem, Signature};
 use sap_text::Text;
 use std::alloc::Global;
@@ -72,12 +72,12 @@ fn push_body(
 }
 
 // The number of a line, and who acts.
-fn push_start(text: &mut Text, paths: &ThreadPaths, number: u64, step: &PStep) -> Result<(), Mem>
-    ensures { OnOk result (text.new ≡ text.old ++ numbered_text number (actor_text paths.now step.now)) }
+fn push_start(text: &mut Text, number: u64, who: &[u8]) -> Result<(), Mem>
+    ensures { OnOk result (text.new ≡ text.old ++ numbered_text number who.now) }
 {
     text.push_number(number)?;
     text.push_bytes(b". ")?;
-    push_actor(text, paths, step)?;
+    text.push_bytes(who)?;
     text.push_bytes(b": ")
 }
 
@@ -167,28 +167,30 @@ fn tell(
     config: &Config,
     at: &mut Along,
     kept: &Before,
+    who: &[u8],
     step: &PStep,
     label: &FactList,
     text: &mut Text,
 ) -> Result<(), Mem>
     requires sig { config.now.sig ≡ sig.now }
     requires lines { at.old.lines < u64.MAX }
-    ensures { OnOk result (IsToldFrom kept.now config.now step.now label.now at.old at.new text.old text.new) }
+    ensures { OnOk result (IsToldFrom kept.now config.now step.now label.now at.old at.new who.now text.old text.new) }
 {
     note(alloc, &mut at.names, step, lent(&kept.head))?;
-    push_start(text, &at.paths, at.lines + 1, step)?;
+    push_start(text, at.lines + 1, who)?;
     push_line(alloc, sig, config, &at.names, kept, step, label, text)?;
     text.push_byte(b'\n')?;
     at.go_on(alloc, step, kept)
 }
 
-/// Does one line, and puts last what is told of it, with a line feed; gives its label. Refused, the configuration is as it was; the
+/// Does one line, and puts last what is told of it, with a line feed, where this is told of who acts in it; gives its label. Refused, the configuration is as it was; the
 /// fault is want of memory, where nothing is said of text and progress, or the first test of the line that fails.
 pub fn tell_line(
     alloc: Global,
     sig: &Signature,
     config: &mut Config,
     at: &mut Along,
+    who: &[u8],
     step: &PStep,
     text: &mut Text,
 ) -> Result<FactList, PFault>
@@ -196,12 +198,22 @@ pub fn tell_line(
     requires exact { MatchesExactly sig.now (configuration config.old) (terms_of config.old.known) }
     requires facts { at.old.facts ≡ length config.old.facts }
     requires lines { at.old.lines < u64.MAX }
-    ensures ok { IfOk result (λ label. IsToldOn config.old config.new at.old at.new text.old text.new step.now label) }
+    ensures ok { IfOk result (λ label. IsToldOn config.old config.new at.old at.new who.now text.old text.new step.now label) }
     ensures refused { IfErr result (IsDenied config.old step.now) }
 {
     match do_line(alloc, config, at.facts, step) {
         Err(fault) => Err(fault),
-        Ok(done) => match tell(alloc, sig, config, at, &done.kept, step, &done.label, text) {
+        Ok(done) => match tell(
+            alloc,
+            sig,
+            config,
+            at,
+            &done.kept,
+            who,
+            step,
+            &done.label,
+            text,
+        ) {
             Err(_) => Err(PFault::Mem),
             Ok(()) => Ok(done.label),
         },
@@ -260,6 +272,7 @@ fn tell_apart(
     config: &Config,
     at: &mut Along,
     kept: &Before,
+    who: &[u8],
     step: &PStep,
     label: &FactList,
     text: &mut Text,
@@ -267,10 +280,10 @@ fn tell_apart(
 ) -> Result<(), Mem>
     requires sig { config.now.sig ≡ sig.now }
     requires lines { at.old.lines < u64.MAX }
-    ensures { OnOk result (IsToldApartFrom kept.now config.now step.now label.now at.old at.new text.old text.new apart.old apart.new) }
+    ensures { OnOk result (IsToldApartFrom kept.now config.now step.now label.now at.old at.new who.now text.old text.new apart.old apart.new) }
 {
     note(alloc, &mut at.names, step, lent(&kept.head))?;
-    push_start(text, &at.paths, at.lines + 1, step)?;
+    push_start(text, at.lines + 1, who)?;
     push_twice(
         alloc, sig, config, &at.names, kept, step, label, text, apart,
     )?;
@@ -284,6 +297,7 @@ pub fn tell_line_apart(
     sig: &Signature,
     config: &mut Config,
     at: &mut Along,
+    who: &[u8],
     step: &PStep,
     text: &mut Text,
     apart: &mut Text,
@@ -292,7 +306,7 @@ pub fn tell_line_apart(
     requires exact { MatchesExactly sig.now (configuration config.old) (terms_of config.old.known) }
     requires facts { at.old.facts ≡ length config.old.facts }
     requires lines { at.old.lines < u64.MAX }
-    ensures ok { IfOk result (λ label. IsToldApart config.old config.new at.old at.new text.old text.new apart.old apart.new step.now label) }
+    ensures ok { IfOk result (λ label. IsToldApart config.old config.new at.old at.new who.now text.old text.new apart.old apart.new step.now label) }
     ensures refused { IfErr result (IsDenied config.old step.now) }
 {
     match do_line(alloc, config, at.facts, step) {
@@ -303,6 +317,7 @@ pub fn tell_line_apart(
             config,
             at,
             &done.kept,
+            who,
             step,
             &done.label,
             text,

@@ -32,15 +32,19 @@ use Rattle.sap_tell.specs.Told.{IsDoing}
 use Rattle.sap_teller.specs.code.Doings.{action_of, outcomes_of}
 use Rattle.sap_teller.specs.declared.before.Before.{Before}
 use Rattle.sap_teller.specs.declared.doing.Doing.{Doing}
+use Rattle.sap_teller.specs.declared.said.Two.{Two}
 use Rattle.sap_teller.specs.declared.doing.Doing.TheVariants as does
 
 -- the thread whose head tells what the line does, and the one that sends to it
 abbrev pub head_of : PStep → Option ℕ
 head_of (line.New t n) = Some t
+head_of (line.Out t) = Some t
+head_of (line.Send t k) = Some t
 head_of (line.In t k) = Some t
 head_of (line.Sync s t) = Some t
 head_of (line.Then t) = Some t
 head_of (line.Else t) = Some t
+head_of (line.Event t) = Some t
 head_of (line.Insert t) = Some t
 head_of (line.Delete t) = Some t
 head_of (line.Found t) = Some t
@@ -109,26 +113,31 @@ Does r z step x =
 abbrev pub IsFoundOut : Before → Running → PStep → Doing → Type 0
 IsFoundOut b z step x = (r : Running) → z.sig ≡ r.sig → MatchesExactly r.sig (configuration r) (terms_of r.known) → IsBefore r step b → Does r z step x
 
--- it is made of the normal form of this term
-pub record IsOfOne (e : Equations) (K : Term → Doing) (m : Term) (x : Doing) : Type 0 where
+-- it is made of this term, as it stands, and its normal form
+pub record IsOfOne (e : Equations) (K : Bor Term → Term → Doing) (m : Term) (x : Doing) : Type 0 where
+  pub standing : Bor Term
+  pub stands : standing.now ≡ m
   pub term : Term
   pub form : IsNormalForm e (tree m) (tree term)
-  pub is : x ≡ K term
+  pub is : x ≡ K standing term
 
--- or of those of two
-pub record IsOfTwo (e : Equations) (K : Term → Term → Doing) (m n : Term) (x : Doing) : Type 0 where
+-- or of two, and theirs
+pub record IsOfTwo (e : Equations) (K : Two → Term → Term → Doing) (m n : Term) (x : Doing) : Type 0 where
+  pub standing : Two
+  pub left_stands : standing.left.now ≡ m
+  pub right_stands : standing.right.now ≡ n
   pub left : Term
   pub right : Term
   pub left_form : IsNormalForm e (tree m) (tree left)
   pub right_form : IsNormalForm e (tree n) (tree right)
-  pub is : x ≡ K left right
+  pub is : x ≡ K standing left right
 
 -- by a head of each form
 abbrev pub IsMade : ℕ → Form → Doing → Type 0
 IsMade n f x = (v : Var) → f ≡ form.New v → (r : Bor Var) × (r.now ≡ v) × (x ≡ does.Makes r n)
 
 abbrev pub IsCompared : Equations → Bool → Form → Doing → Type 0
-IsCompared e same f x = (m n : Term) → f ≡ form.If m n → IsOfTwo e (λ a b. does.Compares a b same) m n x
+IsCompared e same f x = (m n : Term) → f ≡ form.If m n → IsOfTwo e (λ s a b. does.Compares s a b same) m n x
 
 abbrev pub IsInserted : Equations → Form → Doing → Type 0
 IsInserted e f x = (m n : Term) → f ≡ form.Insert m n → IsOfTwo e does.Inserts m n x
@@ -137,13 +146,13 @@ abbrev pub IsDeleted : Equations → Form → Doing → Type 0
 IsDeleted e f x = (m : Term) → f ≡ form.Delete m → IsOfOne e does.Deletes m x
 
 abbrev pub IsLooked : Equations → Option (Bor Term) → Form → Doing → Type 0
-IsLooked e o f x = (m : Term) (v : Var) → f ≡ form.Lookup m v → (r : Bor Var) × (r.now ≡ v) × IsOfOne e (λ k. does.Looks k r o) m x
+IsLooked e o f x = (m : Term) (v : Var) → f ≡ form.Lookup m v → (r : Bor Var) × (r.now ≡ v) × IsOfOne e (λ s k. does.Looks s k r o) m x
 
 abbrev pub IsLocked : Equations → Form → Doing → Type 0
-IsLocked e f x = (m : Term) (i : ℕ) → f ≡ form.Lock m i → IsOfOne e (λ k. does.Holds k true) m x
+IsLocked e f x = (m : Term) (i : ℕ) → f ≡ form.Lock m i → IsOfOne e (λ s k. does.Holds s k true) m x
 
 abbrev pub IsUnlocked : Equations → Form → Doing → Type 0
-IsUnlocked e f x = (m : Term) (i : ℕ) → f ≡ form.Unlock m i → IsOfOne e (λ k. does.Holds k false) m x
+IsUnlocked e f x = (m : Term) (i : ℕ) → f ≡ form.Unlock m i → IsOfOne e (λ s k. does.Holds s k false) m x
 
 -- what a pattern binds by a term, if it fits
 abbrev pub IsFitted : Tree → Tree → (List Binding → Doing) → Doing → Type 0
@@ -155,10 +164,23 @@ pub record IsTakenBy (u : Bor Term) (f : Form) (x : Doing) : Type 0 where
   pub on_channel : (m n : Term) → f ≡ form.Recv m n → (a b : Tree) → tree u.now ≡ app2 pair_name a b → IsFitted (tree n) b (does.Takes u true) x
 
 -- what one that takes binds by what another sends
+pub record IsMetOn (e : Equations) (m n p : Term) (x : Doing) : Type 0 where
+  pub standing : Two
+  pub left_stands : standing.left.now ≡ m
+  pub right_stands : standing.right.now ≡ n
+  pub channel : Term
+  pub message : Term
+  pub channel_form : IsNormalForm e (tree m) (tree channel)
+  pub message_form : IsNormalForm e (tree n) (tree message)
+  pub fitted : IsFitted (tree p) (tree message) (does.Meets standing channel message) x
+
 abbrev pub IsMetBy : Equations → Form → Form → Doing → Type 0
 IsMetBy e f h x =
-    (m n l p : Term) → f ≡ form.Send m n → h ≡ form.Recv l p
-    → (a u : Term) × IsNormalForm e (tree m) (tree a) × IsNormalForm e (tree n) (tree u) × IsFitted (tree p) (tree u) (does.Meets a u) x
+    (m n l p : Term) → f ≡ form.Send m n → h ≡ form.Recv l p → IsMetOn e m n p x
+
+-- what an event shows, as it stands
+abbrev pub IsShownBy : Form → Doing → Type 0
+IsShownBy f x = (e : Fact) → f ≡ form.Event e → (r : Bor Fact) × (r.now ≡ e) × (x ≡ does.Shows r)
 
 -- what an input binds by the entry of a number
 pub record IsTakenFrom (u : Tree) (f : Form) (x : Doing) : Type 0 where
@@ -169,24 +191,38 @@ pub record IsTakenFrom (u : Tree) (f : Form) (x : Doing) : Type 0 where
 abbrev pub IsTakenAt : List Tree → ℕ → Form → Doing → Type 0
 IsTakenAt es k f x = (u : Tree) → slice_get es k ≡ Some u → IsTakenFrom u f x
 
--- it is made of the entry of a number, or of those of two
+-- it is made of the entry of a number
 pub record IsOfTree (K : Bor Term → Doing) (u : Tree) (x : Doing) : Type 0 where
   pub term : Bor Term
   pub same : tree term.now ≡ u
   pub is : x ≡ K term
 
-pub record AreOfTrees (K : Bor Term → Bor Term → Doing) (u v : Tree) (x : Doing) : Type 0 where
-  pub left : Bor Term
-  pub right : Bor Term
-  pub left_same : tree left.now ≡ u
-  pub right_same : tree right.now ≡ v
-  pub is : x ≡ K left right
-
 abbrev pub IsOfEntry : List Tree → ℕ → (Bor Term → Doing) → Doing → Type 0
 IsOfEntry es k K x = (u : Tree) → slice_get es k ≡ Some u → IsOfTree K u x
 
-abbrev pub AreOfEntries : List Tree → ℕ → ℕ → (Bor Term → Bor Term → Doing) → Doing → Type 0
-AreOfEntries es k j K x = (u v : Tree) → slice_get es k ≡ Some u → slice_get es j ≡ Some v → AreOfTrees K u v x
+-- what is put out, as it stands, and the entry of this number
+pub record IsSent (m : Term) (u : Tree) (x : Doing) : Type 0 where
+  pub standing : Bor Term
+  pub stands : standing.now ≡ m
+  pub term : Bor Term
+  pub same : tree term.now ≡ u
+  pub is : x ≡ does.Sends standing term
+
+abbrev pub IsSentBy : List Tree → ℕ → Form → Doing → Type 0
+IsSentBy es k f x = (m : Term) (u : Tree) → f ≡ form.Out m → slice_get es k ≡ Some u → IsSent m u x
+
+-- what is sent on a channel, as both stand, and the entries of these numbers
+pub record IsSentOn (m n : Term) (u v : Tree) (x : Doing) : Type 0 where
+  pub standing : Two
+  pub left_stands : standing.left.now ≡ m
+  pub right_stands : standing.right.now ≡ n
+  pub terms : Two
+  pub left_same : tree terms.left.now ≡ u
+  pub right_same : tree terms.right.now ≡ v
+  pub is : x ≡ does.SendsOn standing terms
+
+abbrev pub IsSentOnBy : List Tree → ℕ → ℕ → Form → Doing → Type 0
+IsSentOnBy es k j f x = (m n : Term) (u v : Tree) → f ≡ form.Send m n → slice_get es k ≡ Some u → slice_get es j ≡ Some v → IsSentOn m n u v x
 
 -- the arguments of facts, as one tree
 abbrev pub together : List Fact → Tree

@@ -30,9 +30,9 @@ pub record IsPushed (ds : List Draw) (kept : Before) (z : Running) (step : PStep
   pub text : after ≡ before ++ body_text ds label kept.entries (slice_get (terms_of z.known) kept.entries) doing
 
 -- from wherever this was kept and the line was done, it is told
-abbrev pub IsToldFrom : Before → Running → PStep → List Fact → Along → Along → List ℕ → List ℕ → Type 0
-IsToldFrom kept z step label a b before after =
-    (r : Running) → MatchesExactly r.sig (configuration r) (terms_of r.known) → IsBefore r step kept → IsDone r z step label → IsToldOn r z a b before after step label
+abbrev pub IsToldFrom : Before → Running → PStep → List Fact → Along → Along → List ℕ → List ℕ → List ℕ → Type 0
+IsToldFrom kept z step label a b who before after =
+    (r : Running) → MatchesExactly r.sig (configuration r) (terms_of r.known) → IsBefore r step kept → IsDone r z step label → IsToldOn r z a b who before after step label
 
 -- what is done, with what comes of it beside what is shown and known
 abbrev pub apart_text : List Draw → List Fact → Doing → List ℕ
@@ -46,6 +46,6 @@ pub record IsPushedTwice (ds : List Draw) (kept : Before) (z : Running) (step : 
   pub apart : apart_after ≡ apart_before ++ apart_text ds label doing
 
 -- from wherever this was kept and the line was done, it is told, and told apart
-abbrev pub IsToldApartFrom : Before → Running → PStep → List Fact → Along → Along → List ℕ → List ℕ → List ℕ → List ℕ → Type 0
-IsToldApartFrom kept z step label a b before after apart_before apart_after =
-    (r : Running) → MatchesExactly r.sig (configuration r) (terms_of r.known) → IsBefore r step kept → IsDone r z step label → IsToldApart r z a b before after apart_before apart_after step label
+abbrev pub IsToldApartFrom : Before → Running → PStep → List Fact → Along → Along → List ℕ → List ℕ → List ℕ → List ℕ → List ℕ → Type 0
+IsToldApartFrom kept z step label a b who before after apart_before apart_after =
+    (r : Running) → MatchesExactly r.sig (configuration r) (terms_of r.known) → IsBefore r step kept → IsDone r z step label → IsToldApart r z a b who before after apart_before apart_after step label

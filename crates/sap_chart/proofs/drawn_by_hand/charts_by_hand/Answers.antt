@@ -46,7 +46,7 @@ returns-clause-begins c = λ n paths o told label. refl
 
 pub returns-clause-empty : goal.returns-clause-empty
 unfolding digits escaped_byte
-returns-clause-empty c = λ g p. record { config = initial p; entries = []; marks = []; draws = []; rows = []; drawn = drawn.starts; written = refl }
+returns-clause-empty c = λ g p cast. record { config = initial p; entries = []; marks = []; draws = []; rows = []; drawn = drawn.starts; written = refl }
 
 pub returns-clause-first_place : goal.returns-clause-first_place
 unfolding digits
@@ -118,3 +118,17 @@ returns-clause-twice_named c = twice_named c.escaped_stands_for_one.ensures.no_m
 
 pub returns-clause-unclosed : goal.returns-clause-unclosed
 returns-clause-unclosed c = unclosed c.escaped_stands_for_one.ensures.no_marks c.escaped_stands_for_one.ensures.read_back
+
+pub returns-clause-role : goal.returns-clause-role
+unfolding digits
+returns-clause-role c = refl
+
+pub returns-clause-role_head : goal.returns-clause-role_head
+unfolding digits escaped_byte
+returns-clause-role_head c = refl
+
+pub returns-clause-no_parenthesis : goal.returns-clause-no_parenthesis
+returns-clause-no_parenthesis c = refl
+
+pub returns-clause-other_head : goal.returns-clause-other_head
+returns-clause-other_head c = λ e. absurd (cc (e))

@@ -8,11 +8,11 @@ returns-clause-written c f rule_lines text other runnable =
     one_text f rule_lines (λ lines others. c.one_converted_run.ensures.run f.signature runnable.process f.process rule_lines lines others runnable.pairs runnable.builtins runnable.ready (omega (arith, few)) runnable.annotation) text other
 
 pub returns-clause-told : goal.returns-clause-told
-returns-clause-told c f rule_lines text other runnable =
+returns-clause-told c bytes f rule_lines text other runnable =
     let few = runnable.small in
-    told_lines f rule_lines (λ lines others. c.one_converted_run.ensures.run f.signature runnable.process f.process rule_lines lines others runnable.pairs runnable.builtins runnable.ready (omega (arith, few)) runnable.annotation) text other
+    told_lines f rule_lines (λ lines others. c.one_converted_run.ensures.run f.signature runnable.process f.process rule_lines lines others runnable.pairs runnable.builtins runnable.ready (omega (arith, few)) runnable.annotation) bytes text other
 
 pub returns-clause-drawn : goal.returns-clause-drawn
-returns-clause-drawn c f rule_lines text other runnable =
+returns-clause-drawn c bytes f rule_lines text other runnable =
     let few = runnable.small in
-    drawn_lines f rule_lines (λ lines others. c.one_converted_run.ensures.run f.signature runnable.process f.process rule_lines lines others runnable.pairs runnable.builtins runnable.ready (omega (arith, few)) runnable.annotation) text other
+    drawn_lines f rule_lines (λ lines others. c.one_converted_run.ensures.run f.signature runnable.process f.process rule_lines lines others runnable.pairs runnable.builtins runnable.ready (omega (arith, few)) runnable.annotation) bytes text other

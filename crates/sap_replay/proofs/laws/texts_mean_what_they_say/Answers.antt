@@ -40,8 +40,8 @@ returns c =
       legal = c.filled_runs_are_legal.ensures.small_runs;
     } in
     record {
-      written = λ task f kinds z r text runnable printable read w.
-          written_says laws kinds z f runnable (record { file = printable; theory = c.theories_are_printable.ensures.plain f runnable printable }) task r text read w;
+      written = λ task bytes f kinds z r text runnable printable read w.
+          written_says laws kinds z f runnable (record { file = printable; theory = c.theories_are_printable.ensures.plain f runnable printable }) task bytes r text read w;
       legal = written_is_seen laws.told;
       as_json = json_is_read as_json;
       of_json = run_is_read as_json;

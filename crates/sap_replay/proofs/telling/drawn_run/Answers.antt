@@ -1,22 +1,6 @@
-use Rattle.sap_replay.specs.ToldRuns.{IsDrawn, own, converted}
-use Rattle.sap_replay.proofs.NeverStops.{lines_written, never_stops}
 use Rattle.sap_replay.proofs.telling.drawn_run.Goals as goal
 
-pub returns-in-Process-clause-given : goal.returns-in-Process-clause-given
-returns-in-Process-clause-given c = rw c.in-Process.is (lines_written _ (IsDrawn _) _ _ _ (own _) c.drawn_lines.ensures.given)
-
-pub returns-in_ok-process_of-in-Rules-clause-given : goal.returns-in_ok-process_of-in-Rules-clause-given
-returns-in_ok-process_of-in-Rules-clause-given c =
-    rw c.in-Rules.is (lines_written _ (IsDrawn _) _ _ _ (converted _ c.in_ok-process_of-in-Rules.ensures.given) c.drawn_lines-in-Rules-2.ensures.given)
-
-pub returns-in_ok-process_of-in-Rules-clause-refused : goal.returns-in_ok-process_of-in-Rules-clause-refused
-returns-in_ok-process_of-in-Rules-clause-refused c = λ line h.
-    absurd (never_stops
-    (record {
-      outcome = c.process_lines.ensures.outcome;
-      answer = c.process_lines.ensures.answer;
-      exactly = c.process_lines.ensures.exactly;
-      small_lines = c.process_lines.ensures.small_lines;
-      small_runs = c.process_lines.ensures.small_runs;
-    })
-    c.annotations_are_ready.ensures.ready _ c.requires _ _ c.in_ok-process_of-in-Rules.ensures.given line (c.drawn_lines-in-Rules-2.ensures.refused line h))
+pub returns-clause-given : goal.returns-clause-given
+returns-clause-given c =
+    let cast = c.in_ok-script.ensures.cast in
+    c.drawn_by_roles.ensures.given c.args.bytes.now cast.0 cast.1 cast.2

@@ -5,7 +5,7 @@ use Rattle.sap_replay.proofs.Stopped.{process_stops}
 use Rattle.sap_replay.proofs.telling.told_lines.Goals as goal
 
 pub tell_run-requires-clause-ready : goal.tell_run-requires-clause-ready
-tell_run-requires-clause-ready c = c.annotations_are_ready.ensures.ready c.args.file.now.signature c.requires.process (proc c.args.file.now.process) c.requires.ready c.requires.annotation
+tell_run-requires-clause-ready c = c.annotations_are_ready.ensures.ready c.args.file.now.signature c.requires.file.process (proc c.args.file.now.process) c.requires.file.ready c.requires.file.annotation
 
 pub returns-in-Err-clause-refused : goal.returns-in-Err-clause-refused
 returns-in-Err-clause-refused c = λ line h.

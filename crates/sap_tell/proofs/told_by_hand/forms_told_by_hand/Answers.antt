@@ -29,7 +29,7 @@ returns-clause-name c = λ g d p r. record { doing = _; outcomes = _; done = tol
 
 pub returns-clause-send : goal.returns-clause-send
 unfolding digits
-returns-clause-send c = λ g d. record { doing = _; outcomes = _; done = told.outputs_on 1 0 hi refl; written = refl }
+returns-clause-send c = λ g d p r. record { doing = _; outcomes = _; done = told.outputs_on 1 0 hi r refl; written = refl }
 
 pub returns-clause-take : goal.returns-clause-take
 unfolding digits
@@ -45,26 +45,26 @@ returns-clause-meet c = λ g d p q r u f k n. record { doing = _; outcomes = _; 
 
 pub returns-clause-other_branch : goal.returns-clause-other_branch
 unfolding digits
-returns-clause-other_branch c = λ g d. record { doing = _; outcomes = _; done = told.differs 1; written = refl }
+returns-clause-other_branch c = λ g d p q r. record { doing = _; outcomes = _; done = told.differs 1 r; written = refl }
 
 pub returns-clause-turned : goal.returns-clause-turned
 returns-clause-turned c = turned
 
 pub returns-clause-delete : goal.returns-clause-delete
 unfolding digits
-returns-clause-delete c = λ g d. record { doing = _; outcomes = _; done = told.deletes 1; written = refl }
+returns-clause-delete c = λ g d p r. record { doing = _; outcomes = _; done = told.deletes 1 r; written = refl }
 
 pub returns-clause-find : goal.returns-clause-find
 unfolding digits
-returns-clause-find c = λ g d m p q r. record { doing = _; outcomes = _; done = told.finds 1 r; written = refl }
+returns-clause-find c = λ g d p q r. record { doing = _; outcomes = _; done = told.finds 1 r; written = refl }
 
 pub returns-clause-miss : goal.returns-clause-miss
 unfolding digits
-returns-clause-miss c = λ g d m p q r. record { doing = _; outcomes = _; done = told.misses 1 r; written = refl }
+returns-clause-miss c = λ g d p q r. record { doing = _; outcomes = _; done = told.misses 1 r; written = refl }
 
 pub returns-clause-unlock : goal.returns-clause-unlock
 unfolding digits
-returns-clause-unlock c = λ g d. record { doing = _; outcomes = _; done = told.unlocks 1; written = refl }
+returns-clause-unlock c = λ g d p n r. record { doing = _; outcomes = _; done = told.unlocks 1 r; written = refl }
 
 pub returns-clause-rule : goal.returns-clause-rule
 unfolding digits

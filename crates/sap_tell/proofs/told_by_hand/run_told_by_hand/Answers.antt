@@ -5,11 +5,12 @@ use Rattle.sap_process.specs.Configuration.{becomes, initial, spawns}
 use Rattle.sap_process.specs.Proc.{nil, parallel}
 use Rattle.sap_runs.specs.declared.process_step.PStep.TheVariants as line
 use Rattle.sap_terms.specs.Signature.{Sig}
+use Rattle.sap_tell.specs.ToldExamples.{no_roles}
 use Rattle.sap_tell.specs.Told as told
 use Rattle.sap_tell.specs.Told.{IsToldRun}
 use Rattle.sap_tell.proofs.told_by_hand.run_told_by_hand.Goals as goal
 
-first : (g : Sig) → IsToldRun g (parallel nil nil) (line.Par 0 ∷ []) (spawns (becomes (initial (parallel nil nil)) 0 (Some nil)) nil) [] [] [] [] (codes "1. thread 0 at the root: | -- thread 1 begins\n")
+first : (g : Sig) → IsToldRun g (parallel nil nil) no_roles (line.Par 0 ∷ []) (spawns (becomes (initial (parallel nil nil)) 0 (Some nil)) nil) [] [] [] [] (codes "1. thread 0 at the root: | -- thread 1 begins\n")
 unfolding digits
 first g = told.further (line.Par 0) [] [] (codes "1. thread 0 at the root: | -- thread 1 begins") told.starts (lines.splits 0 refl) (record { doing = _; outcomes = _; done = told.splits 0; written = refl })
 

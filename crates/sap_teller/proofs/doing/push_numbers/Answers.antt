@@ -1,6 +1,6 @@
 use Rattle.std.proofs.Common.{◌++◌, decimal, codes, ap, ◌∙◌}
 use Rattle.sap_grammar.specs.Pieces.{separator_before}
-use Rattle.sap_teller.proofs.Joins.{joined_texts-next}
+use Rattle.sap_grammar.proofs.ReadingLaws.Pushed.{joined_texts-next}
 use Rattle.sap_teller.proofs.doing.push_numbers.Goals as goal
 
 pub loop-k-preserved : goal.loop-k-preserved

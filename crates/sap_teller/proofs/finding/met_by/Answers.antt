@@ -11,4 +11,4 @@ pub returns : goal.returns
 returns c =
     let lent : c.deref.result.now ≡ c.args.sent.value = cc in
     let only = subst (λ two. IsOnlyMatch (tree c.args.p.now) (tree two.1) [] c.in-Some.b) lent (rw c.in-Some.is at c.in_ok-bound_to.ensures) in
-    if_ok c.boxed.result _ _ (λ (r : Box Doing) same. inr (c.in-Some.b, (let meets : r.value ≡ does.Meets c.args.sent.value.0 c.args.sent.value.1 c.in-Some.b = cc in meets), only)) c.boxed.ensures
+    if_ok c.boxed.result _ _ (λ (r : Box Doing) same. inr (c.in-Some.b, (let meets : r.value ≡ does.Meets c.args.stands c.args.sent.value.0 c.args.sent.value.1 c.in-Some.b = cc in meets), only)) c.boxed.ensures

@@ -23,11 +23,11 @@ returns-in-New c =
 
 pub returns-in-Out : goal.returns-in-Out
 returns-in-Out c =
-    rw c.in-Out.is (if_ok c.sent.result _ _ (λ (x : Box Doing). found_sends c.laws_below.ensures c.args.before.now c.args.config.now x.value _) c.sent.ensures)
+    rw c.in-Out.is (if_ok c.sent.result _ _ (λ (x : Box Doing). found_sends c.laws_below.ensures c.args.before.now c.args.config.now x.value (form_of c.lent-head.result) (sym c.lent-head.ensures) _) c.sent.ensures)
 
 pub returns-in-Send : goal.returns-in-Send
 returns-in-Send c =
-    rw c.in-Send.is (if_ok c.sent_on.result _ _ (λ (x : Box Doing). found_sends_on c.laws_below.ensures c.args.before.now c.args.config.now x.value _ c.in-Send.k) c.sent_on.ensures)
+    rw c.in-Send.is (if_ok c.sent_on.result _ _ (λ (x : Box Doing). found_sends_on c.laws_below.ensures c.args.before.now c.args.config.now x.value (form_of c.lent-head.result) (sym c.lent-head.ensures) _ c.in-Send.k) c.sent_on.ensures)
 
 pub returns-in-In : goal.returns-in-In
 returns-in-In c =
@@ -47,7 +47,7 @@ returns-in-Else c =
 
 pub returns-in-Event : goal.returns-in-Event
 returns-in-Event c =
-    rw c.in-Event.is (if_ok c.boxed-in-Event.result _ _ (λ (x : Box Doing). found_shows c.laws_below.ensures c.args.before.now c.args.config.now x.value _) c.boxed-in-Event.ensures)
+    rw c.in-Event.is (if_ok c.shown.result _ _ (λ (x : Box Doing). found_shows c.laws_below.ensures c.args.before.now c.args.config.now x.value (form_of c.lent-head.result) (sym c.lent-head.ensures) _) c.shown.ensures)
 
 pub returns-in-Insert : goal.returns-in-Insert
 returns-in-Insert c =
