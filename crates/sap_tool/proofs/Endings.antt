@@ -170,7 +170,7 @@ ended c (Some (tells n text)) status is put = answered (tells n text) is (put (t
 
 -- what a task writes of a run that was read, or the line that refuses it, ends both
 pub replay_ends : (task : Task) (file run bytes z : List ℕ) (f : FileContent) (r : Reading) (text : Result (List ℕ) Refusal) → IsAcceptedFile bytes f → HasRead (replay task file run) r z
-    → IfOk text (λ t. (lines : Run) × IsRunAnswer (kinds_of task) z (Ok lines) × Writes task f lines t)
+    → IfOk text (λ t. (lines : Run) × IsRunAnswer (kinds_of task) z (Ok lines) × Writes task bytes f lines t)
     → ((line : List ℕ) → IsErrOf text (refusal.Told line) → IsRunRefusal (kinds_of task) (IsIllegal f) z line) → EndsBoth (replay task file run) bytes r (ending_of text)
 replay_ends task file run bytes z f r (Ok t) accepted read given told =
     (z, read, record { told = f; file = accepted; lines = given.0; read = given.1; written = given.2 })

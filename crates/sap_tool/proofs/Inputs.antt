@@ -122,7 +122,7 @@ replaying_is laws task file run = record {
     file = t.file;
     lines = t.lines;
     read = t.read;
-    written = laws.meant.written task t.told (kinds_of task) z t.lines text (laws.runnable bytes t.told t.file.read) (laws.printed bytes t.told t.file) t.read t.written;
+    written = laws.meant.written task bytes t.told (kinds_of task) z t.lines text (laws.runnable bytes t.told t.file.read) (laws.printed bytes t.told t.file) t.read t.written;
   }) input;
   never_taken = λ input why. both_two _ _ ⊥ (λ bytes z t r.
       let same : r.0 ≡ t.told = same_file laws.one bytes r.0 t.told r.1.read t.file.read in
@@ -133,7 +133,7 @@ replaying_is laws task file run = record {
       laws.one_cause.file r.0 (kinds_of task) z why other (laws.runnable bytes r.0 r.1.read) r.2
       (subst (λ (f : FileContent). IsRunRefusedWith (kinds_of task) (IsIllegal f) z other) same s.2)) input;
   takes = λ input text why t r. on_both _ _ (λ bytes z t.
-      let shown = laws.meant.legal task t.told t.lines text t.written in
+      let shown = laws.meant.legal task bytes t.told t.lines text t.written in
       record { told = t.told; file = t.file; lines = t.lines; read = t.read; trace = shown.0; seen = shown.1 }) input t;
   allowed_is_whole = λ input text. both_whole (replaying task file run) _ (λ bytes z t. (t.told, t.file)) input;
   refused_is_whole = λ input why. both_whole (replaying task file run) _ (λ bytes z r. (r.0, r.1)) input;

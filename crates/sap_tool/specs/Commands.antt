@@ -154,8 +154,8 @@ replaying task file run = record {
   RefusesRun = λ input why. IsWithRun (λ bytes z. (told : FileContent) × IsAcceptedFile bytes told
       × IsRunRefusedWith (kinds_of task) (IsIllegal told) z why) input;
   TakesRun = λ input. IsWithRun (λ bytes z. IsLegalOfFile (kinds_of task) bytes z) input;
-  Allows = λ input text. IsWithRun (λ bytes z. IsReplayed (kinds_of task) (Writes task) bytes z text) input;
-  Means = λ input text. IsWithRun (λ bytes z. IsReplayed (kinds_of task) (Says task) bytes z text) input;
+  Allows = λ input text. IsWithRun (λ bytes z. IsReplayed (kinds_of task) (Writes task bytes) bytes z text) input;
+  Means = λ input text. IsWithRun (λ bytes z. IsReplayed (kinds_of task) (Says task bytes) bytes z text) input;
 }
 
 -- the run of a file that a short run stands for

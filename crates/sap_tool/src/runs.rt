@@ -32,21 +32,28 @@ pub fn replay_bytes<S: Shelf>(
 {
     files_are_runnable();
     match accepted_file(alloc, bytes) {
-        Ok(told) => replay_run(alloc, task, shelf, &told, run),
+        Ok(told) => replay_run(alloc, task, shelf, &told, bytes, run),
         Err(refusal) => of_refused(refusal),
     }
 }
 
-// Ends with what the task writes of a run of the file.
-fn replay_run<S: Shelf>(alloc: Global, task: Task, shelf: &mut S, told: &File, run: &str) -> Ending
+// Ends with what the task writes of a run of the file of these bytes.
+fn replay_run<S: Shelf>(
+    alloc: Global,
+    task: Task,
+    shelf: &mut S,
+    told: &File,
+    bytes: &[u8],
+    run: &str,
+) -> Ending
     requires { IsRunnable (told_by told.now) }
-    ensures ends { (file bytes : List ℕ) → IsAcceptedFile bytes (told_by told.now)
-        → EndsBoth (replay task file run.now) bytes
+    ensures ends { (file : List ℕ) → IsAcceptedFile bytes.now (told_by told.now)
+        → EndsBoth (replay task file run.now) bytes.now
         (reading run.now (S.seen shelf.old) (S.seen shelf.new)) result }
     ensures later { (n : List ℕ) → (S.seen shelf.old).faults n ≤ (S.seen shelf.new).faults n }
 {
     match read_run(alloc, shelf, run, kinds_of(task)) {
-        Ok(answer) => of_run(replayed(alloc, task, told, &answer)),
+        Ok(answer) => of_run(replayed(alloc, task, told, bytes, &answer)),
         Err(fault) => of_fault(fault),
     }
 }

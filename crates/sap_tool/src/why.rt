@@ -1,6 +1,6 @@
-//! Why a file is refused: its cause, where this stands, and what to change; or that the file is accepted.
+//! Why a file is refused: its cause, where this stands, and what to change; or that the file is accepted, and the notes on it.
 
-ghost use Rattle.std.specs.Prelude.{◌≡◌, ◌≤◌, Err, length, IfOk};
+ghost use Rattle.std.specs.Prelude.{◌≡◌, ◌≤◌, ◌++◌, ℕ, List, Err, length, IfOk};
 ghost use Rattle.sap_process.specs.Proc.{proc};
 ghost use Rattle.sap_read.specs.FileExpansions.{IsFileExpansion};
 ghost use Rattle.sap_read.specs.FileTokens.{HasTokens};
@@ -10,9 +10,11 @@ ghost use Rattle.sap_read.specs.WrittenFiles.{IsWrittenFile};
 ghost use Rattle.sap_read.specs.declared.fault.ReadFault.TheVariants as faults;
 ghost use Rattle.sap_replay.specs.AcceptedFile.{most_bytes};
 ghost use Rattle.sap_tool.specs.WhyTexts.{IsWhyText, accepted_text, long_text};
+ghost use Rattle.sap_notes.specs.NotesTold.{IsNotesText};
 ghost use Rattle.sap_read_places.specs.Reached.{IsReached};
 
 use sap_explain::{Reached, length_advice, push_explanation};
+use sap_notes::push_notes;
 use sap_process::Process;
 use sap_read::{
     ReadFault, SaidFile, WrittenFile, check_said, check_written, file_process, file_tokens,
@@ -24,7 +26,7 @@ use sap_terms::Mem;
 use sap_text::{Text, Token};
 use std::alloc::Global;
 
-/// Whether the bytes are accepted, or why not.
+/// Whether the bytes are accepted, with notes on them, or why not.
 pub fn why_text(alloc: Global, bytes: &[u8]) -> Result<Text, Mem>
     ensures { IfOk result (IsWhyText bytes.now) }
 {
@@ -112,7 +114,7 @@ fn judge_process(
     ensures { IfOk result (IsWhyText bytes.now) }
 {
     match check_written(alloc, written, process) {
-        Ok(()) => accepted(alloc),
+        Ok(()) => accepted(alloc, bytes, tokens, written),
         Err(fault) => refused(
             alloc,
             bytes,
@@ -123,12 +125,20 @@ fn judge_process(
     }
 }
 
-/// That they are.
-fn accepted(alloc: Global) -> Result<Text, Mem>
-    ensures { IfOk result (λ text. text ≡ accepted_text) }
+/// That they are, and the notes on the file.
+fn accepted(
+    alloc: Global,
+    bytes: &[u8],
+    tokens: &[Token],
+    written: &WrittenFile,
+) -> Result<Text, Mem>
+    requires tokens { HasTokens bytes.now tokens.now }
+    requires written { IsWrittenFile bytes.now written.now }
+    ensures { IfOk result (λ text. (t : List ℕ) × (text ≡ accepted_text ++ t) × IsNotesText bytes.now t) }
 {
     let mut text = Text::new(alloc);
     text.push_bytes(b"accepted\n")?;
+    push_notes(alloc, &mut text, bytes, tokens, written)?;
     Ok(text)
 }
 

@@ -5,6 +5,7 @@ ghost use Rattle.sap_tool.specs.Commands.{Allows, Input, Refuses, RefusesRun, Ta
 ghost use Rattle.sap_tool.specs.WhyTexts.{IsWhyText};
 
 use sap_explain::one_explanation;
+use sap_notes::one_notes_text;
 use sap_read::one_file;
 
 /// A law: of some bytes one text is told.
@@ -14,6 +15,7 @@ pub fn one_why_text()
 {
     one_file();
     one_explanation();
+    one_notes_text();
 }
 
 /// A law: the command tried by hand. What words ask for it; that it refuses no file and no run, takes no run, and allows nothing where a

@@ -1,9 +1,14 @@
-use Rattle.std.proofs.Common.{◌≡◌, ℕ, codes, List, [], ◌∷◌, ◌++◌, length, None, refl, sym, ap, subst, ◌∙◌}
+use Rattle.std.specs.Prelude.{option_and_then, option_map, slice_index_or}
+use Rattle.sap_players.specs.Numbers.{role_number}
+use Rattle.std.proofs.Common.{◌≡◌, ℕ, codes, List, [], ◌∷◌, ◌++◌, length, Option, Some, None, refl, sym, ap, subst, ◌∙◌}
 use Rattle.std.proofs.lemmas.List.{append-nil}
 use Rattle.std.specs.Fmt.{digits}
 use Rattle.sap_back.specs.Converted.{IsConvertedToProcess}
 use Rattle.sap_formula.specs.Form.{LemmaForm, RestrictionForm}
 use Rattle.sap_lines.specs.Lines as lines
+use Rattle.sap_players.specs.Casts.{Cast}
+use Rattle.sap_tell.specs.Stages.{stage_of}
+use Rattle.sap_tell.specs.ToldText.{actor_text, called_text}
 use Rattle.sap_process.specs.Configuration.{becomes, initial}
 use Rattle.sap_process.specs.Proc.{nil}
 use Rattle.sap_read.specs.Files.{FileContent}
@@ -20,7 +25,9 @@ use Rattle.sap_replay.specs.Verdicts.{AreVerdicts, all_judged, no_line}
 use Rattle.sap_tool.proofs.telling_laws.telling_by_hand.Goals as goal
 
 pub returns-clause-empty : goal.returns-clause-empty
-returns-clause-empty c = λ f restrictions lemmas. record {
+returns-clause-empty c = λ bytes cast f roles restrictions lemmas. record {
+  cast = cast;
+  roles = roles;
   lines = [];
   of_run = own [];
   written = record {
@@ -35,9 +42,20 @@ returns-clause-empty c = λ f restrictions lemmas. record {
   };
 }
 
+-- a thread that ends at once is told by its number, whatever role it has there
+ended_so : (cast : Cast) → actor_text (stage_of cast [] (line.Nil 0)) (line.Nil 0) ≡ codes "thread 0 at the root"
+unfolding digits
+ended_so cast = by (cast.at [])
+  where
+    by : (o : Option ℕ) → called_text 0 (option_and_then (λ (r : ℕ). option_map (λ (k : ℕ). (slice_index_or cast.names r [], k)) (role_number [] r 0)) o) ++ codes " at the root" ≡ codes "thread 0 at the root"
+    by None = refl
+    by (Some r) = refl
+
 pub returns-clause-one_line : goal.returns-clause-one_line
 unfolding digits
-returns-clause-one_line c = λ f verdicts ends judged. record {
+returns-clause-one_line c = λ bytes cast f verdicts roles ends judged. record {
+  cast = cast;
+  roles = roles;
   lines = line.Nil 0 ∷ [];
   of_run = own (line.Nil 0 ∷ []);
   written = record {
@@ -49,7 +67,7 @@ returns-clause-one_line c = λ f verdicts ends judged. record {
       entries = [];
       marks = [];
       run = told.further {lines = []} (line.Nil 0) [] [] (codes "1. thread 0 at the root: 0 -- thread 0 ends") starts (lines.ends 0 refl)
-          (record { doing = codes "0"; outcomes = codes "thread 0 ends" ∷ []; done = told.ends 0; written = refl });
+          (record { doing = codes "0"; outcomes = codes "thread 0 ends" ∷ []; done = told.ends 0; written = rw (ended_so cast) refl });
     });
     verdicts = verdicts;
     judged = judged;
@@ -68,9 +86,9 @@ none_of f _ _ (converted {rule_lines = rule_lines} lines c) e =
     nothing lines (c.count ∙ ap back_count none)
 
 pub returns-clause-no_lines : goal.returns-clause-no_lines
-returns-clause-no_lines c = λ f text w.
+returns-clause-no_lines c = λ bytes f text w.
     let none = none_of f (run.Rules []) w.lines w.of_run refl in
-    record { lines = []; of_run = own []; written = subst (λ (ls : List PStep). IsToldAndJudged f ls text) none w.written }
+    record { cast = w.cast; roles = w.roles; lines = []; of_run = own []; written = subst (λ (ls : List PStep). IsToldAndJudged f w.cast ls text) none w.written }
 
 -- what has a line feed in it isn't empty
 never_bare : (told verdicts : List ℕ) → [] ≡ told ++ 10 ∷ verdicts → ⊥
@@ -78,7 +96,7 @@ never_bare [] verdicts e = cc
 never_bare (x ∷ told) verdicts e = cc
 
 pub returns-clause-not_bare : goal.returns-clause-not_bare
-returns-clause-not_bare c = λ f r w. never_bare w.written.told _ w.written.layout
+returns-clause-not_bare c = λ bytes f r w. never_bare w.written.told _ w.written.layout
 
 by_conversion : (f : FileContent) (rule_lines : List RStep) (lines : List PStep) → AreLinesOf f (run.Rules rule_lines) lines → IsConvertedToProcess f.signature f.process rule_lines lines
 by_conversion f rule_lines _ (converted lines c) = c
