@@ -1,0 +1,15 @@
+mod SameFacts
+mod Alikes
+mod Settled
+mod Serving
+mod Chosen
+mod SilentOnce
+mod StatesOnce
+mod LinesOnce
+mod Which
+mod RefusedOnce
+mod RunsOnce
+mod ByHand
+mod SettlesByHand
+mod LinesByHand
+mod RefusedByHand

@@ -1,0 +1,12 @@
+pub mod Alike
+pub mod Settling
+pub mod Silent
+pub mod SilentUses
+pub mod ShortRuleStates
+pub mod Taking
+pub mod ShortRuleLines
+pub mod ShortRuleRuns
+pub mod RuleRefusals
+pub mod Pending
+pub mod OneAnswer
+pub mod ShortRuleExamples
