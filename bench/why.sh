@@ -1,9 +1,10 @@
 #!/bin/sh
-# Counts what `sapic why` costs beside `compile`, by the program itself, on files that are refused and whose size doubles:
+# Counts what `sapic why` costs beside `compile`, by the program itself, on files that are refused, but for two kinds, and whose size doubles:
 #
 #   byte      so many definitions, and a byte that begins no token behind them
 #   item      the same with an item that is in no grammar
 #   line      the same without a line feed in the file
+#   below     the same with a wrong word in a term below ninety-nine others
 #   twice     the same with a definition more of the first name
 #   unknown   the same with a process that isn't defined
 #   clash     the same with a declaration that disagrees with one before them
@@ -16,11 +17,13 @@
 #   binders   one lemma that binds one name so many times in one quantifier, and behind it once without a guard
 #   deep      one lemma of so many conjuncts, which are more levels than a formula may have
 #   nested    one lemma of so many facts below twenty quantifiers in one another that bind one name, and behind them one without a guard
+#   notes     an accepted file with a note on each line: so many functions that no term has, and definitions that nothing uses
+#   row       the same in one line
 #
-# For each size it tells the instructions of both, by valgrind, their ratio, which is to be at most 1.5, of `names` 1.8, of `item`
-# and `line` 3.2, and what `why` takes to the size before, at most 2.2. Both read the file once; of `names` the walk to the place beyond
-# goes through each name, where `compile` counts alone, and sizes of uses are taken once more. Of a piece in no grammar the words are gone
-# over four times up to the wrong one: for its place, twice for what is expected there, and for what to write instead.
+# For each size it tells the instructions of both, by valgrind, their ratio, which is to be at most 1.5, of `names` 1.8, of `notes`
+# and `row` 2, and what `why` takes to the size before, at most 2.2. Both read the file once; of `names` the walk to the place beyond
+# goes through each name, where `compile` counts alone, and sizes of uses are taken once more. Of a piece in no grammar `why` goes over
+# the words once more up to the wrong one, and there tries some hundred words, however deep it stands.
 # And of each file of examples/ it tells the instructions of `compile`, and of `why` on it with a lemma that is in no grammar, which are
 # to be fewer.
 #
@@ -40,6 +43,7 @@ definitions() {
 byte() { definitions "$1" '\n' 'process: 0 %'; }
 item() { definitions "$1" '\n' 'process: new ~k; out(~k;'; }
 line() { definitions "$1" ' ' 'process: new ~k; out(~k;'; }
+below() { definitions "$1" '\n' "process: out($(printf 'f(%.0s' $(seq 99))'a' 'b'"; }
 twice() { definitions "$1" '\n' 'let P1 = 0 process: 0'; }
 unknown() { definitions "$1" '\n' 'process: Q'; }
 clash() { definitions "$1" '\n' 'functions: f/2 process: 0'; }
@@ -109,11 +113,23 @@ nested() {
     }'
 }
 
+# so many functions and definitions that are unused, with this behind each
+unused() {
+    awk -v n="$1" -v feed="$2" 'BEGIN {
+        printf "theory Bench begin%s", feed
+        for (k = 1; k <= n; k++) printf "functions: f%d/1%slet P%d = event A()%s", k, feed, k, feed
+        print "process: 0 end"
+    }'
+}
+
+notes() { unused "$1" '\n'; }
+row() { unused "$1" ' '; }
+
 wished=" $* "
 printf '%-8s %7s %14s %14s %6s %7s\n' kind size compile why ratio growth
 
 # kind KIND LINE SIZES..: a line for the file of each size, which the function of that name makes, and which is refused with this line,
-# where this kind is asked for
+# or accepted where that is empty, where this kind is asked for
 kind() {
     what=$1 refused=$2 old=0
     shift 2
@@ -123,7 +139,7 @@ kind() {
         at=$(($(wc -c < "$work/file.spthy") - 6))
         row=$(wc -l < "$work/file.spthy")
         line=$(echo "$refused" | sed "s/BYTE/$at/; s/LINE/$row/")
-        ends 1 "file refused: $line"
+        if [ -n "$line" ]; then ends 1 "file refused: $line"; else ends 0 ''; fi
         long=$(instructions compile "$work/file.spthy")
         ends 0 ''
         told=$(instructions why "$work/file.spthy")
@@ -138,6 +154,7 @@ kind() {
 kind byte 'byte BYTE begins no token' 1000 2000 4000 8000
 kind item 'line LINE: not in the grammar' 1000 2000 4000 8000
 kind line 'line 1: not in the grammar' 1000 2000 4000 8000
+kind below 'line LINE: not in the grammar' 1000 2000 4000 8000
 kind twice 'name P1 stands twice' 1000 2000 4000 8000
 kind unknown 'process Q is not defined' 1000 2000 4000 8000
 kind clash 'function f is declared otherwise' 1000 2000 4000 8000
@@ -150,6 +167,8 @@ kind lemma 'last: variable x is not guarded' 1000 2000 4000 8000
 kind binders 'last: variable x is not guarded' 8000 16000 32000 64000
 kind deep 'line 2: not in the grammar' 1000 2000 4000 8000
 kind nested 'last: variable x is not guarded' 1000 2000 4000 8000
+kind notes '' 1000 2000 4000 8000
+kind row '' 1000 2000 4000 8000
 
 case $wished in *" examples "* | "  ") ;; *) exit 0 ;; esac
 for file in "$(dirname "$0")"/../examples/*.spthy; do

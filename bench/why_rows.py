@@ -6,11 +6,13 @@ usage: bench/why_rows.py
 `bench/why-marks` has a row for each file, written as the rows of the tables are, with what refuses it behind `%`. `bench/why/` has
 whole files, whose first line is `-- ` and what refuses them. In both `@@` stands before the word at which the mistake is, or behind
 the last word; a file without `@@` has no place. Where one comes to that word through uses of a `let`, `&&` stands before the name of
-the one use, or `&1&`, `&2&` and so on before the names of several, the innermost first. What is expected in place of a word that is
-in no grammar is found by the grammar of docs/files.md (why_expected.py); where levels have a say it stands by hand behind ` = `. Where a
-row of `sap_cures` fits at the mistake, its sentence stands by hand behind that and ` => `. What is counted here from the marks is line,
-column, the bytes of the word, and the lines of the uses, and N in a cause is the offset of the mark. Nothing is taken from what the
-program prints.
+the one use, or `&1&`, `&2&` and so on before the names of several, the innermost first. Where a cause has another place, `@2@` stands
+before its word. What is expected in place of a word that is in no grammar is found by the grammar of docs/files.md (why_expected.py);
+where levels have a say it stands by hand behind ` = `. Where a row of `sap_cures` fits at the mistake, its sentence stands by hand
+behind that and ` => `. `bench/why-mutations` has mutations of the example files (why_mutations.py). In a file that is accepted
+`@1@`, `@2@` or `@3@` stands before each word at which a note of this kind is, the kinds as `NOTES` has them. What is counted here from
+the marks is line, column, the bytes of the word, and the lines of the uses, and N in a cause is the offset of the mark. Nothing is
+taken from what the program prints.
 """
 import glob
 import os
@@ -20,6 +22,7 @@ import sys
 top = os.path.dirname(os.path.dirname(os.path.abspath(__file__)))
 sys.path.insert(0, os.path.join(top, "bench"))
 from why_expected import expectation
+from why_mutations import mutation
 
 # What to change, by the beginning and the end of what refuses a file.
 ADVICE = [
@@ -59,8 +62,29 @@ ADVICE = [
     (r"longer than 1048576 bytes", "Leave out comments, or write once, as a let, what stands twice."),
 ]
 
+# What is told of a note, by its number: a symbol in place of that of a builtin, one that is in no term, a definition that isn't led to.
+NOTES = {
+    "1": "No equation speaks of this symbol, so nothing undoes it: name builtins: %s in place of this declaration.",
+    "2": "No term has this symbol: use it, or leave its declaration out.",
+    "3": "The process doesn't lead to this let: use it there, or leave it out.",
+}
+BUILTINS = {
+    "senc": "symmetric-encryption",
+    "sdec": "symmetric-encryption",
+    "aenc": "asymmetric-encryption",
+    "adec": "asymmetric-encryption",
+    "pk": "asymmetric-encryption, signing or revealing-signing",
+    "sign": "signing",
+    "verify": "signing",
+    "true": "signing or revealing-signing",
+    "revealSign": "revealing-signing",
+    "revealVerify": "revealing-signing",
+    "getMessage": "revealing-signing",
+}
+NOTE = re.compile(r"@([1-9])@")
+
 SKIP = re.compile(rb"(?:[ \t\r\n]|//[^\n]*|/\*.*?\*/)*", re.S)
-MARK = re.compile(r"@@|&([0-9]*)&")
+MARK = re.compile(r"@@|@2@|&([0-9]*)&")
 MOST_USES = 8
 WORD = re.compile(rb"[A-Za-z][A-Za-z0-9_]*|[0-9]+|'[ -&(-~]*'|==>|<=>|--\[|\]->|-->|\|\||.", re.S)
 
@@ -120,10 +144,10 @@ def picture(data, start, end):
 
 
 def unmarked(text):
-    """The text without its marks, where `@@` stood, and where the uses, the innermost first."""
-    bare, at, uses, end = "", None, {}, 0
+    """The text without its marks, where `@@` stood, where `@2@` did, and where the uses, the innermost first."""
+    bare, at, other, uses, end = "", None, None, {}, 0
     if "@@" not in text:
-        return text, None, []
+        return text, None, None, []
     for mark in MARK.finditer(text):
         if mark.group() == "@@" and at is not None:
             continue
@@ -131,12 +155,15 @@ def unmarked(text):
         end = mark.end()
         if mark.group() == "@@":
             at = len(bare)
+        elif mark.group() == "@2@":
+            assert other is None, text
+            other = len(bare)
         else:
             number = int(mark.group(1) or "1")
             assert number not in uses, text
             uses[number] = len(bare)
     assert sorted(uses) == list(range(1, len(uses) + 1)), text
-    return bare + text[end:], at, [uses[number] for number in sorted(uses)]
+    return bare + text[end:], at, other, [uses[number] for number in sorted(uses)]
 
 
 def used(data, uses):
@@ -147,13 +174,38 @@ def used(data, uses):
     return text + ("and %d more\n" % (len(uses) - MOST_USES) if len(uses) > MOST_USES else "")
 
 
+def noted(text):
+    """The text without the marks of notes, and where they stood, each with its kind."""
+    bare, notes, end = "", [], 0
+    for mark in NOTE.finditer(text):
+        bare += text[end : mark.start()]
+        end = mark.end()
+        notes.append((len(bare), mark.group(1)))
+    return bare + text[end:], notes
+
+
+def accepted(marked):
+    """An accepted file, and all that is told of it."""
+    bare, notes = noted(marked.decode("latin-1"))
+    bare, told = bare.encode("latin-1"), "accepted\n"
+    for at, kind in notes:
+        start, end = place(bare, at, "")
+        name = bare[start:end].decode()
+        told += picture(bare, start, end) + (NOTES[kind] % BUILTINS[name] if kind == "1" else NOTES[kind]) + "\n"
+    return bare, told
+
+
 def expected(marked, cause):
     """The file, and all that is told of it."""
     if cause == "accepted":
-        return marked, "accepted\n"
+        return accepted(marked)
+    bare, at, other, uses = unmarked(marked.decode("latin-1"))
+    return expected_at(bare.encode("latin-1"), at, uses, cause, other)
+
+
+def expected_at(bare, at, uses, cause, other=None):
+    """The same of a mistake at this offset, with these uses, and perhaps another place."""
     cause, _, cure = cause.partition(" => ")
-    bare, at, uses = unmarked(marked.decode("latin-1"))
-    bare = bare.encode("latin-1")
     text, told = "", cause
     by_hand = None
     if " = " in cause:
@@ -161,6 +213,8 @@ def expected(marked, cause):
         told = cause
     if at is not None:
         text = picture(bare, *place(bare, at, cause)) + used(bare, uses)
+        if other is not None:
+            text += "and " + picture(bare, *place(bare, other, cause))
         if re.fullmatch(r"no theory header|line \d+: not in the grammar", cause):
             text += expectation(bare, at, by_hand)
         told = cause.replace("byte N", "byte %d" % at)
@@ -175,7 +229,8 @@ def of_marks(row):
     bytes_ = written(file)
     whole = bytes_[1:] if file.startswith("=") else b"theory T begin " + bytes_ + b" end"
     _, told = expected(whole, written(cause).decode())
-    return unmarked(file)[0] + " % " + shown(told.encode("latin-1"))
+    bare = noted(file)[0] if cause == "accepted" else unmarked(file)[0]
+    return bare + " % " + shown(told.encode("latin-1"))
 
 
 def of_file(path):
@@ -183,8 +238,18 @@ def of_file(path):
     text = open(path, "rb").read()
     head, marked = text.split(b"\n", 1)
     bare, told = expected(marked, head[3:].decode())
-    file = "".join(shown(bytes([b])) if b < 127 else "{%02x}" % b for b in bare)
-    return "=" + file + " % " + shown(told.encode("latin-1"))
+    return whole(bare) + " % " + shown(told.encode("latin-1"))
+
+
+def whole(bare):
+    """The first part of a row of a whole file."""
+    return "=" + "".join(shown(bytes([b])) if b < 127 else "{%02x}" % b for b in bare)
+
+
+def of_mutation(row):
+    """The row of a mutation of an example file."""
+    bare, told = expected_at(*mutation(row))
+    return whole(bare) + " % " + shown(told.encode("latin-1"))
 
 
 with open(os.path.join(top, "crates/sap_tables/data/why"), "w") as table:
@@ -195,3 +260,6 @@ with open(os.path.join(top, "crates/sap_tables/data/why"), "w") as table:
     for line in open(os.path.join(top, "bench/why-marks")):
         line = line.rstrip("\n")
         table.write(line + "\n" if not line or line.startswith("-- ") else of_marks(line) + "\n")
+    for line in open(os.path.join(top, "bench/why-mutations")):
+        line = line.rstrip("\n")
+        table.write(line + "\n" if not line or line.startswith("-- ") else of_mutation(line) + "\n")

@@ -1,6 +1,0 @@
-use Rattle.std.proofs.Common.{◌≡◌, []}
-use Rattle.std.proofs.Math.ListN.{replicate}
-use Rattle.sap_roles.proofs.numbers.RoleNumbers.new.Given as goal
-
-abbrev pub invariant-loop : goal.invariant-loop
-invariant-loop l = l.roles.items ≡ replicate l.counter []
