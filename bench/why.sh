@@ -17,7 +17,7 @@
 #   deep      one lemma of so many conjuncts, which are more levels than a formula may have
 #   nested    one lemma of so many facts below twenty quantifiers in one another that bind one name, and behind them one without a guard
 #
-# For each size it tells the instructions of both, by valgrind, their ratio, which is to be at most 1.5, of `names` 1.8, of `item`
+# For each size it tells the instructions of both, by valgrind, their ratio, which is to be at most 1.5, of `names` 1.7, of `item`
 # and `line` 3.2, and what `why` takes to the size before, at most 2.2. Both read the file once; of `names` the walk to the place beyond
 # goes through each name, where `compile` counts alone, and sizes of uses are taken once more. Of a piece in no grammar the words are gone
 # over four times up to the wrong one: for its place, twice for what is expected there, and for what to write instead.
