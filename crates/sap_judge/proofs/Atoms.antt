@@ -13,7 +13,8 @@ use Rattle.sap_judge.proofs.Members.{each_map}
 use Rattle.sap_formula.specs.Messages.{AreAnyMessages, HasMessages, IsAnyMessage}
 use Rattle.sap_judge.proofs.Patterns.{matched_all_reads, matched_reads}
 use Rattle.sap_judge.proofs.Plain.{FormulaLaws}
-use Rattle.sap_judge.proofs.Reading.{Reads, Start, Suits, get_kept, value}
+use Rattle.sap_judge.specs.Reasons.{Suits, value}
+use Rattle.sap_judge.proofs.Reading.{Reads, Start, get_kept}
 use Rattle.sap_judge.proofs.Tests.{decides_each_any}
 use Rattle.std.proofs.lemmas.Bool.Decides.{Decides-and}
 use Rattle.sap_formula.specs.Checked.{AreCheckedTerms, IsCheckedTerm, binder_name, find_binder}

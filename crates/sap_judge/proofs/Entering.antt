@@ -11,13 +11,15 @@ use Rattle.sap_judge.proofs.Leading.{IsGuardTrue, Leads, Reached, leads_found, l
 use Rattle.sap_judge.proofs.Patterns.{IsCheckedAction}
 use Rattle.sap_judge.proofs.Plain.{FormulaLaws}
 use Rattle.sap_formula.specs.Messages.{IsNormalEnv}
-use Rattle.sap_judge.proofs.Reading.{Agrees, AreFilled, IsFitting, Start, get_kept, value}
+use Rattle.sap_judge.specs.Reasons.{value}
+use Rattle.sap_judge.proofs.Reading.{Agrees, AreFilled, IsFitting, Start, get_kept}
 use Rattle.sap_judge.proofs.Layers.{bound_apart, bound_stands, by_slotted, by_stay, same_slots}
 use Rattle.sap_formula.specs.Checked.{AreGuarded, IsApart, NoTwice, StandsInAtom, binder_name, enter, find_binder}
 use Rattle.sap_formula.specs.Form.{Form}
 use Rattle.sap_formula.specs.Truth.{EachIn, Every, Exists, Times}
 use Rattle.sap_match.specs.Atoms.{Held, held_term, held_time}
-use Rattle.sap_judge.specs.code.Ready.{Layers, guards, guards_of, place_of, seen_by, slot_at, slot_count, slot_in}
+use Rattle.sap_judge.specs.Guards.{guards}
+use Rattle.sap_judge.specs.code.Ready.{Layers, guards_of, place_of, seen_by, slot_at, slot_count, slot_in}
 use Rattle.sap_search.specs.Planned.{searched}
 use Rattle.sap_formula.specs.declared.binder.Binder.{Binder}
 use Rattle.sap_formula.specs.declared.binder.Binder.TheVariants.{Message, Time}
@@ -62,7 +64,7 @@ module _ (bs : List Binder) (layers : Layers) (n : List ℕ) (k : ℕ) where
 
 module _ (w : FormulaLaws) (g : Sig) (tr : Trace) (m : IsMessageTrace g tr) (scope : List Binder) (layers : Layers) (held : List Held) (σ : Choice) (τ : Times) (here : Here g tr scope layers held σ τ) (bs : List Binder) (once : NoTwice bs) where
   -- before the guards
-  enter_start : Start g tr (enter bs scope) (place_of bs layers) [] held
+  pub enter_start : Start g tr (enter bs scope) (place_of bs layers) [] held
   enter_start = record {
     counted = omega (arith, here.counted);
     filled = λ c k i e.
@@ -71,20 +73,20 @@ module _ (w : FormulaLaws) (g : Sig) (tr : Trace) (m : IsMessageTrace g tr) (sco
   }
 
   -- values of its binders
-  abbrev Filled : Choice → Times → Type 0
+  abbrev pub Filled : Choice → Times → Type 0
   Filled σ' τ' = Fill (IsMessage g) (λ k. k < length tr) bs σ τ σ' τ'
 
   same_value : (σ' : Choice) (τ' : Times) → Filled σ' τ' → (c : Binder) → IsApart bs (binder_name c) → value σ τ c ≡ value σ' τ' c
   same_value σ' τ' fill c a = value_kept (IsMessage g) (λ k. k < length tr) bs σ τ σ' τ' fill c a
 
-  enter_agrees : (σ' : Choice) (τ' : Times) → Filled σ' τ' → Agrees (enter bs scope) (slot_at (place_of bs layers) []) held σ' τ'
+  pub enter_agrees : (σ' : Choice) (τ' : Times) → Filled σ' τ' → Agrees (enter bs scope) (slot_at (place_of bs layers) []) held σ' τ'
   enter_agrees σ' τ' fill c k i e =
       let r = outside bs layers (binder_name c) k e in
       here.agrees c k (sym (w.other bs scope (binder_name c) r.0) ∙ i) r.1 ∙ ap (λ z. Some z) (same_value σ' τ' fill c r.0)
 
   module _ (q : Form) (guarded : AreGuarded bs q) where
     -- the names that have slots behind the guards
-    abbrev later : List (List ℕ)
+    abbrev pub later : List (List ℕ)
     later = seen_by (place_of bs layers) [] (guards q)
 
     -- the look-up behind the guards is that of the body
@@ -111,7 +113,7 @@ module _ (w : FormulaLaws) (g : Sig) (tr : Trace) (m : IsMessageTrace g tr) (sco
         in_case false e = let s = old_slot b e i in (s.0, sym (look_same (binder_name b)) ∙ s.1)
 
       -- what is known in the body
-      body_here : (σ' : Choice) (τ' : Times) → Filled σ' τ' → Agrees (enter bs scope) (slot_at (place_of bs layers) later) out σ' τ' → Here g tr (enter bs scope) (later ∷ layers) out σ' τ'
+      pub body_here : (σ' : Choice) (τ' : Times) → Filled σ' τ' → Agrees (enter bs scope) (slot_at (place_of bs layers) later) out σ' τ' → Here g tr (enter bs scope) (later ∷ layers) out σ' τ'
       body_here σ' τ' fill a = record {
         counted = reached.start.counted;
         filled = λ b k i e. reached.start.filled b k i (look_same (binder_name b) ∙ e);
@@ -122,11 +124,11 @@ module _ (w : FormulaLaws) (g : Sig) (tr : Trace) (m : IsMessageTrace g tr) (sco
       }
 
       -- the slot of the binder holds this
-      abbrev Holds : Binder → Held → Type 0
+      abbrev pub Holds : Binder → Held → Type 0
       Holds b h = (k : ℕ) → slot_at (place_of bs layers) later (binder_name b) ≡ Some k → slice_get out k ≡ Some h
 
       -- each binder of the quantifier has a slot that holds what suits it
-      each_held : EachIn (HasOne g tr Holds) bs
+      pub each_held : EachIn (HasOne g tr Holds) bs
       each_held =
           each_both (λ b. find_binder (enter bs scope) (binder_name b) ≡ Some b) (λ b. StandsInAtom (binder_name b) q) (HasOne g tr Holds) bs (λ b i s.
           let t = by_slotted (place_of bs layers) q [] (binder_name b) s in
@@ -134,7 +136,7 @@ module _ (w : FormulaLaws) (g : Sig) (tr : Trace) (m : IsMessageTrace g tr) (sco
           (r.0, r.2, λ k e. let t1 = t.1 in let same : t.0 ≡ k = cc in subst (λ j. slice_get out j ≡ Some r.0) same r.1)) (w.own bs scope once) guarded
 
       -- and values that are those agree with all slots
-      held_agree : (σ' : Choice) (τ' : Times) → Filled σ' τ' → EachIn (λ b. Holds b (value σ' τ' b)) bs → Agrees (enter bs scope) (slot_at (place_of bs layers) later) out σ' τ'
+      pub held_agree : (σ' : Choice) (τ' : Times) → Filled σ' τ' → EachIn (λ b. Holds b (value σ' τ' b)) bs → Agrees (enter bs scope) (slot_at (place_of bs layers) later) out σ' τ'
       held_agree σ' τ' fill h c k i e = in_case (list_any (bytes_eq (binder_name c)) (map binder_name bs)) refl where
         in_case : (r : Bool) → list_any (bytes_eq (binder_name c)) (map binder_name bs) ≡ r → slice_get out k ≡ Some (value σ' τ' c)
         in_case true d = each_named (λ b. Holds b (value σ' τ' b)) (find_binder (enter bs scope)) bs c (w.own bs scope once) h d i k e
@@ -146,7 +148,7 @@ module _ (w : FormulaLaws) (g : Sig) (tr : Trace) (m : IsMessageTrace g tr) (sco
 
     module _ (checked : EachIn (IsCheckedAction g (enter bs scope)) (guards q)) (leaf : List Held → Bool) (B : Choice → Times → Type 0) (decides : (out : List Held) (σ' : Choice) (τ' : Times) → Here g tr (enter bs scope) (later ∷ layers) out σ' τ' → EachIn (IsGuardTrue g tr σ' τ') (guards q) → Decides (leaf out) (B σ' τ')) where
       -- what is known where something is reached
-      reach : (out : List Held) → Leads (guards_of tr (place_of bs layers) [] (guards q)) held out → Reached g tr (enter bs scope) (place_of bs layers) later held (λ σ τ. EachIn (IsGuardTrue g tr σ τ) (guards q)) out
+      pub reach : (out : List Held) → Leads (guards_of tr (place_of bs layers) [] (guards q)) held out → Reached g tr (enter bs scope) (place_of bs layers) later held (λ σ τ. EachIn (IsGuardTrue g tr σ τ) (guards q)) out
       reach out l = leads_reached w g tr m (enter bs scope) (place_of bs layers) (guards q) checked [] held out enter_start l
 
       -- where something is reached the body is decided for some values
@@ -165,7 +167,7 @@ module _ (w : FormulaLaws) (g : Sig) (tr : Trace) (m : IsMessageTrace g tr) (sco
           record { terms = v.0; times = v.1; fill = v.2; body = decides out v.0 v.1 (body_here out C r v.0 v.1 v.2 a) (r.back v.0 v.1 a) }
 
       -- and for values that make the guards true something is reached where the body is decided for them
-      reached_for : (σ' : Choice) (τ' : Times) → Filled σ' τ' → EachIn (IsGuardTrue g tr σ' τ') (guards q) → (out : List Held) × Leads (guards_of tr (place_of bs layers) [] (guards q)) held out × Decides (leaf out) (B σ' τ')
+      pub reached_for : (σ' : Choice) (τ' : Times) → Filled σ' τ' → EachIn (IsGuardTrue g tr σ' τ') (guards q) → (out : List Held) × Leads (guards_of tr (place_of bs layers) [] (guards q)) held out × Decides (leaf out) (B σ' τ')
       reached_for σ' τ' fill t =
           let C = λ (σ : Choice) (τ : Times). EachIn (IsGuardTrue g tr σ τ) (guards q) in
           let P = λ (k : ℕ). k < length tr in

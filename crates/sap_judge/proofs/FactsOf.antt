@@ -6,7 +6,7 @@ use Rattle.sap_judge.proofs.Members.{any_cases, any_left, any_right}
 use Rattle.sap_judge.proofs.Tests.{IsIn}
 use Rattle.sap_formula.specs.Truth.{AnyIn, facts_at}
 use Rattle.sap_match.specs.Atoms.{Sight}
-use Rattle.sap_judge.specs.code.Ready.{sights, sights_at, sights_from}
+use Rattle.sap_judge.specs.Guards.{sights, sights_at, sights_from}
 use Rattle.sap_terms.specs.Trace.{Trace}
 use Rattle.sap_terms.specs.declared.fact.Fact.{Fact}
 

@@ -3,7 +3,8 @@ use Rattle.std.proofs.Common.{◌≡◌, ℕ, ◌<◌, List, [], ◌∷◌, Bool
 use Rattle.std.specs.Str.{bytes_eq}
 use Rattle.std.proofs.lemmas.Slice.Eq.{bytes_eq-Decides}
 use Rattle.sap_formula.specs.Messages.{IsNormalEnv}
-use Rattle.sap_judge.proofs.Reading.{IsFitting, Suits, value}
+use Rattle.sap_judge.specs.Reasons.{Suits, value}
+use Rattle.sap_judge.proofs.Reading.{IsFitting}
 use Rattle.sap_formula.specs.Checked.{IsApart, NoTwice, binder_name, enter, find_binder}
 use Rattle.sap_formula.specs.Truth.{EachIn, Every, Exists, Times, bind, stamp}
 use Rattle.sap_match.specs.Atoms.{Held, held_term, held_time}
@@ -26,7 +27,7 @@ Fill D P [] σ τ σ' τ' = (σ ≡ σ') × (τ ≡ τ')
 Fill D P (Message v ∷ bs) σ τ σ' τ' = (t : Tree) × D v.sort t × Fill D P bs (bind v t σ) τ σ' τ'
 Fill D P (Time m ∷ bs) σ τ σ' τ' = (k : ℕ) × P k × Fill D P bs σ (stamp m k τ) σ' τ'
 
-other : (m n : List ℕ) → (m ≡ n → ⊥) → bytes_eq m n ≡ false
+pub other : (m n : List ℕ) → (m ≡ n → ⊥) → bytes_eq m n ≡ false
 other m n h = at (bytes_eq m n) refl where
   at : (r : Bool) → bytes_eq m n ≡ r → r ≡ false
   at false e = refl

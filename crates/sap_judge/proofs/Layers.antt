@@ -7,7 +7,8 @@ use Rattle.std.proofs.lemmas.Iterator.Adapters.{position_from-zero}
 use Rattle.std.proofs.lemmas.Slice.Eq.{bytes_eq-Decides}
 use Rattle.sap_formula.specs.Checked.{AreGuarded, IsApart, StandsInAtom, StandsIn, StandsInAny, binder_name}
 use Rattle.sap_formula.specs.Form.{Form, action, both, earlier, either, equal, equivalent, every, exists, falsity, implies, negation, same_time, truth}
-use Rattle.sap_judge.specs.code.Ready.{Action, Layers, Place, guards, marked, marked_all, noted, place_of, seen_behind, seen_by, slot_at, slot_count, slot_in, slot_or}
+use Rattle.sap_judge.specs.Guards.{Action, guards}
+use Rattle.sap_judge.specs.code.Ready.{Layers, Place, marked, marked_all, noted, place_of, seen_behind, seen_by, slot_at, slot_count, slot_in, slot_or}
 use Rattle.sap_formula.specs.declared.binder.Binder.{Binder}
 use Rattle.sap_terms.proofs.PlainLaws.Tests.{same_name}
 use Rattle.sap_terms.specs.Tree.{Tree, Trees, apply, fresh, more, none, public, trees_of, variable}

@@ -12,7 +12,8 @@ use Rattle.sap_judge.proofs.Plain.{FormulaLaws}
 use Rattle.sap_judge.proofs.Reading.{Agrees, Ends, Gives, IsFitting, Start}
 use Rattle.sap_judge.proofs.Tests.{IsIn, decides_all, decides_any}
 use Rattle.sap_formula.specs.Truth.{AnyIn, EachIn, Shows, Times, facts_at}
-use Rattle.sap_judge.specs.code.Ready.{Action, Place, atom_of, guards_of, seen_behind, seen_by, sights, slot_at}
+use Rattle.sap_judge.specs.Guards.{Action, sights}
+use Rattle.sap_judge.specs.code.Ready.{Place, atom_of, guards_of, seen_behind, seen_by, slot_at}
 use Rattle.sap_search.specs.Plan.{Guard}
 use Rattle.sap_match.specs.Atoms.{Held, Sight}
 use Rattle.sap_match.specs.Matched.{guarded}
@@ -95,7 +96,7 @@ module _ (w : FormulaLaws) (g : Sig) (tr : Trace) (m : IsMessageTrace g tr) (sco
       subst (λ k. AnyIn (Shows (equations g) σ a.pattern) (facts_at tr k)) (sym f.1) there
 
   -- values that agree with what is reached agree with what was there
-  agrees_mid : (xs : List Action) → EachIn (IsCheckedAction g scope) xs → (seen : List (List ℕ)) (held out : List Held) → Start g tr scope p seen held → Leads (guards_of tr p seen xs) held out → (σ : Choice) (τ : Times) → Agrees scope (slot_at p (seen_by p seen xs)) out σ τ → Agrees scope (slot_at p seen) held σ τ
+  pub agrees_mid : (xs : List Action) → EachIn (IsCheckedAction g scope) xs → (seen : List (List ℕ)) (held out : List Held) → Start g tr scope p seen held → Leads (guards_of tr p seen xs) held out → (σ : Choice) (τ : Times) → Agrees scope (slot_at p (seen_by p seen xs)) out σ τ → Agrees scope (slot_at p seen) held σ τ
   agrees_mid [] c seen held out start e σ τ b = subst (λ z. Agrees scope (slot_at p seen) z σ τ) (sym e) b
   agrees_mid (a ∷ xs) c seen held out start (s, i, mid, e, l) σ τ b =
       let at = of_sights a.pattern.name tr s i in

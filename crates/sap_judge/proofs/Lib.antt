@@ -14,9 +14,17 @@ pub mod Atoms
 pub mod SlimPlans
 pub mod FoldLaws
 pub mod Planning
+pub mod Picking
+pub mod Led
+pub mod Explaining
+pub mod Explained
+pub mod OneReason
+pub mod SlimClaims
+pub mod SlotLaws
 pub mod Marks
 pub mod RowLaws
 pub mod Verdicts
 pub mod OneVerdict
 mod JudgingByHand
+mod ReasonsByHand
 mod SmallFormulas

@@ -10,7 +10,8 @@ use Rattle.std.proofs.lemmas.Slice.Eq.{bytes_eq-Decides}
 use Rattle.sap_judge.proofs.Tests.{names_turn}
 use Rattle.sap_formula.specs.Checked.{binder_name}
 use Rattle.sap_formula.specs.declared.binder.Binder.{Binder}
-use Rattle.sap_judge.specs.code.Ready.{Action, Place, guards_of, marked, marked_all, noted, seen_behind, seen_by, slot_at, slot_count, slot_in, slot_or}
+use Rattle.sap_judge.specs.Guards.{Action}
+use Rattle.sap_judge.specs.code.Ready.{Place, guards_of, marked, marked_all, noted, seen_behind, seen_by, slot_at, slot_count, slot_in, slot_or}
 use Rattle.sap_search.specs.Plan.{Guard}
 use Rattle.sap_terms.proofs.PlainLaws.Lists.{drop_got}
 use Rattle.sap_terms.proofs.PlainLaws.Trees.{item_le-trees_count}

@@ -10,7 +10,8 @@ use Rattle.sap_formula.specs.Messages.{AreAnyMessages, HasMessages, IsAnyMessage
 use Rattle.sap_judge.proofs.Reading.{Ends, Gives, Reads, Start, ends_same, filled_gives, given_reads}
 use Rattle.sap_formula.specs.Checked.{AreCheckedTerms, IsCheckedTerm, find_binder}
 use Rattle.sap_formula.specs.Truth.{Times}
-use Rattle.sap_judge.specs.code.Ready.{Action, Place, atom_of, marked, marked_all, noted, seen_behind, slot_at}
+use Rattle.sap_judge.specs.Guards.{Action}
+use Rattle.sap_judge.specs.code.Ready.{Place, atom_of, marked, marked_all, noted, seen_behind, slot_at}
 use Rattle.sap_match.specs.Atoms.{Held, held_term, held_time}
 use Rattle.sap_match.specs.Matched.{State, filled, guarded, matched, matched_all, onward, taken_by}
 use Rattle.sap_formula.specs.declared.binder.Binder.{Binder}

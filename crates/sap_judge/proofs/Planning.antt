@@ -18,7 +18,8 @@ use Rattle.sap_formula.specs.Slim.{slim}
 use Rattle.sap_formula.specs.Truth.{EachIn, IsTrueUnder, Times}
 use Rattle.sap_judge.specs.code.Answer.{PlanLaw}
 use Rattle.sap_match.specs.Atoms.{Held}
-use Rattle.sap_judge.specs.code.Ready.{Layers, guards, left_of_imp, place_of, ready, seen_by, slot_in, under_and}
+use Rattle.sap_judge.specs.Guards.{guards}
+use Rattle.sap_judge.specs.code.Ready.{Layers, left_of_imp, place_of, ready, seen_by, slot_in, under_and}
 use Rattle.sap_search.specs.Planned.{planned}
 use Rattle.sap_match.specs.Matched.{time_at}
 use Rattle.sap_formula.specs.declared.binder.Binder.{Binder}
@@ -35,7 +36,7 @@ use Rattle.sap_terms.specs.declared.fact.Fact.{Fact}
 
 -- the guards of a checked formula are checked
 
-guards_checked : (g : Sig) (V : List ℕ → Type 0) (scope : List Binder) (f : Form) → IsChecked g V scope f → EachIn (IsCheckedAction g scope) (guards f)
+pub guards_checked : (g : Sig) (V : List ℕ → Type 0) (scope : List Binder) (f : Form) → IsChecked g V scope f → EachIn (IsCheckedAction g scope) (guards f)
 guards_checked g V scope (both f h) c = each_append (IsCheckedAction g scope) (guards f) (guards h) (guards_checked g V scope f c.0) (guards_checked g V scope h c.1)
 guards_checked g V scope (action f i) c = (record { terms = c.1; timed = c.2 }, tt)
 guards_checked g V scope truth c = tt
@@ -50,7 +51,7 @@ guards_checked g V scope (equivalent _ _) c = tt
 guards_checked g V scope (every _ _) c = tt
 guards_checked g V scope (exists _ _) c = tt
 
-premise_checked : (g : Sig) (V : List ℕ → Type 0) (scope : List Binder) (f : Form) → IsChecked g V scope f → IsChecked g V scope (premise f)
+pub premise_checked : (g : Sig) (V : List ℕ → Type 0) (scope : List Binder) (f : Form) → IsChecked g V scope f → IsChecked g V scope (premise f)
 premise_checked g V scope (implies f h) c = c.0
 premise_checked g V scope (both _ _) c = tt
 premise_checked g V scope (action _ _) c = tt
@@ -66,11 +67,11 @@ premise_checked g V scope (every _ _) c = tt
 premise_checked g V scope (exists _ _) c = tt
 
 -- truth, where quantifiers range over messages and the times of the trace
-abbrev IsTrue : Sig → Trace → Form → Choice → Times → Type 0
+abbrev pub IsTrue : Sig → Trace → Form → Choice → Times → Type 0
 IsTrue g tr f σ τ = IsTrueUnder (equations g) tr (IsMessage g) (λ k. k < length tr) f σ τ
 
 -- and the guards of a true one are true
-guards_true : (g : Sig) (tr : Trace) (f : Form) (σ : Choice) (τ : Times) → IsTrue g tr f σ τ → EachIn (IsGuardTrue g tr σ τ) (guards f)
+pub guards_true : (g : Sig) (tr : Trace) (f : Form) (σ : Choice) (τ : Times) → IsTrue g tr f σ τ → EachIn (IsGuardTrue g tr σ τ) (guards f)
 guards_true g tr (both f h) σ τ t = each_append (IsGuardTrue g tr σ τ) (guards f) (guards h) (guards_true g tr f σ τ t.0) (guards_true g tr h σ τ t.1)
 guards_true g tr (action f i) σ τ t = (t, tt)
 guards_true g tr truth σ τ t = tt
@@ -86,7 +87,7 @@ guards_true g tr (every _ _) σ τ t = tt
 guards_true g tr (exists _ _) σ τ t = tt
 
 -- a formula is true where it follows from the guards of its premise
-assume_premise : (g : Sig) (tr : Trace) (f : Form) (σ : Choice) (τ : Times) → (EachIn (IsGuardTrue g tr σ τ) (guards (premise f)) → IsTrue g tr f σ τ) → IsTrue g tr f σ τ
+pub assume_premise : (g : Sig) (tr : Trace) (f : Form) (σ : Choice) (τ : Times) → (EachIn (IsGuardTrue g tr σ τ) (guards (premise f)) → IsTrue g tr f σ τ) → IsTrue g tr f σ τ
 assume_premise g tr (implies f h) σ τ k = λ l. k (guards_true g tr f σ τ l) l
 assume_premise g tr (both _ _) σ τ k = k tt
 assume_premise g tr (action _ _) σ τ k = k tt
@@ -102,23 +103,23 @@ assume_premise g tr (every _ _) σ τ k = k tt
 assume_premise g tr (exists _ _) σ τ k = k tt
 
 -- what is known of a formula of which no more than the extent is tested
-abbrev Given : Sig → Trace → Extent → Form → Choice → Times → Type 0
+abbrev pub Given : Sig → Trace → Extent → Form → Choice → Times → Type 0
 Given g tr Whole f σ τ = Unit {0}
 Given g tr Body f σ τ = EachIn (IsGuardTrue g tr σ τ) (guards (premise f))
 Given g tr Rest f σ τ = EachIn (IsGuardTrue g tr σ τ) (guards f)
 
 module _ (g : Sig) (tr : Trace) (f h : Form) (σ : Choice) (τ : Times) where
-  given_first : (e : Extent) → Given g tr e (both f h) σ τ → Given g tr (under_and e) f σ τ
+  pub given_first : (e : Extent) → Given g tr e (both f h) σ τ → Given g tr (under_and e) f σ τ
   given_first Whole k = tt
   given_first Body k = tt
   given_first Rest k = each_left (IsGuardTrue g tr σ τ) (guards f) (guards h) k
 
-  given_second : (e : Extent) → Given g tr e (both f h) σ τ → Given g tr (under_and e) h σ τ
+  pub given_second : (e : Extent) → Given g tr e (both f h) σ τ → Given g tr (under_and e) h σ τ
   given_second Whole k = tt
   given_second Body k = tt
   given_second Rest k = each_right (IsGuardTrue g tr σ τ) (guards f) (guards h) k
 
-  given_premise : (e : Extent) → Given g tr e (implies f h) σ τ → Given g tr (left_of_imp e) f σ τ
+  pub given_premise : (e : Extent) → Given g tr e (implies f h) σ τ → Given g tr (left_of_imp e) f σ τ
   given_premise Whole k = tt
   given_premise Body k = k
   given_premise Rest k = tt
@@ -159,7 +160,7 @@ module _ (w : FormulaLaws) (g : Sig) (V : List ℕ → Type 0) (tr : Trace) (m :
       (guards_true g tr f)
 
 -- before anything is bound
-here_first : FormulaLaws → (g : Sig) (tr : Trace) → Here g tr [] [] [] (λ v. variable v) (λ n. 0)
+pub here_first : FormulaLaws → (g : Sig) (tr : Trace) → Here g tr [] [] [] (λ v. variable v) (λ n. 0)
 here_first w g tr = record {
   counted = refl;
   filled = λ b k i e. absurd (cc);

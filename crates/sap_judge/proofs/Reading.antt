@@ -8,6 +8,7 @@ use Rattle.sap_judge.proofs.Layers.{slot_cases, slot_kept, slot_next}
 use Rattle.sap_formula.specs.Checked.{binder_name, find_binder}
 use Rattle.sap_formula.specs.Truth.{Times}
 use Rattle.sap_match.specs.Atoms.{Held, held_term, held_time}
+use Rattle.sap_judge.specs.Reasons.{Suits, value}
 use Rattle.sap_judge.specs.code.Ready.{Place, noted, slot_at, slot_count}
 use Rattle.sap_match.specs.Matched.{State, filled, is_held, onward}
 use Rattle.sap_formula.specs.declared.binder.Binder.{Binder}
@@ -30,18 +31,6 @@ get_end [] x = refl
 get_end (y ∷ xs) x = get_end xs x
 
 -- values
-
--- what the slot of a binder's name is to hold
-abbrev pub value : Choice → Times → Binder → Held
-value σ τ (Message v) = held_term (σ v)
-value σ τ (Time m) = held_time (τ m)
-
--- what may stand for it
-abbrev pub Suits : Sig → Trace → Binder → Held → Type 0
-Suits g tr (Message v) (held_term t) = IsMessage g v.sort t
-Suits g tr (Message v) (held_time k) = ⊥
-Suits g tr (Time m) (held_term t) = ⊥
-Suits g tr (Time m) (held_time k) = k < length tr
 
 -- the slots hold the values of the binders
 abbrev pub Agrees : List Binder → (List ℕ → Option ℕ) → List Held → Choice → Times → Type 0

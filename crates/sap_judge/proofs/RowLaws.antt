@@ -8,7 +8,7 @@ use Rattle.std.proofs.lemmas.Slice.Eq.{bytes_eq-Decides}
 use Rattle.sap_judge.proofs.Tests.{names_turn}
 use Rattle.sap_formula.specs.Cost.{time_facts, trace_facts}
 use Rattle.sap_match.specs.View.{sight}
-use Rattle.sap_judge.specs.code.Ready.{sights, sights_at, sights_from}
+use Rattle.sap_judge.specs.Guards.{sights, sights_at, sights_from}
 use Rattle.sap_judge.specs.code.Rows.{Adds, if_named, row_of}
 use Rattle.sap_match.specs.declared.sighted.Sighted.{Sighted}
 use Rattle.sap_terms.proofs.PlainLaws.Lists.{drop_got}

@@ -8,7 +8,8 @@ use Rattle.sap_judge.proofs.Tests.{names_turn}
 use Rattle.sap_formula.specs.Checked.{binder_name, premise}
 use Rattle.sap_formula.specs.Form.{Form, action, both, earlier, either, equal, equivalent, every, exists, falsity, implies, negation, same_time, truth}
 use Rattle.sap_formula.specs.Slim.{binds, lasts, slim}
-use Rattle.sap_judge.specs.code.Ready.{Action, Layers, Place, atom_of, guards, guards_of, left_of_imp, marked, marked_all, noted, place_of, ready, seen_behind, seen_by, sights, slot_at, slot_count, slot_in, slot_or, under_and}
+use Rattle.sap_judge.specs.Guards.{Action, guards, sights}
+use Rattle.sap_judge.specs.code.Ready.{Layers, Place, atom_of, guards_of, left_of_imp, marked, marked_all, noted, place_of, ready, seen_behind, seen_by, slot_at, slot_count, slot_in, slot_or, under_and}
 use Rattle.sap_search.specs.Plan.{and_then, alike, if_then, inverse, or_else, search}
 use Rattle.sap_formula.specs.declared.binder.Binder.{Binder}
 use Rattle.sap_judge.specs.declared.extent.Extent.{Extent}
@@ -73,7 +74,7 @@ module _ (p q : Place) (e : (seen : List (List ℕ)) (n : List ℕ) → slot_at 
 
 -- the guards are the same
 
-guards_slim : (f : Form) → guards f ≡ guards (slim f)
+pub guards_slim : (f : Form) → guards f ≡ guards (slim f)
 guards_slim (both f h) = λ i. guards_slim f i ++ guards_slim h i
 guards_slim (action f i) = refl
 guards_slim truth = refl
@@ -88,7 +89,7 @@ guards_slim (equivalent _ _) = refl
 guards_slim (every _ _) = refl
 guards_slim (exists _ _) = refl
 
-premise_slim : (f : Form) → guards (premise f) ≡ guards (premise (slim f))
+pub premise_slim : (f : Form) → guards (premise f) ≡ guards (premise (slim f))
 premise_slim (implies f h) = guards_slim f
 premise_slim (both _ _) = refl
 premise_slim (action _ _) = refl
@@ -104,10 +105,10 @@ premise_slim (every _ _) = refl
 premise_slim (exists _ _) = refl
 
 module _ (tr : Trace) (bs : List Binder) (layers : Layers) (xs ys : List Action) (e : xs ≡ ys) where
-  quantifier_guards : guards_of tr (place_of bs layers) [] xs ≡ guards_of tr (place_of (lasts bs) layers) [] ys
+  pub quantifier_guards : guards_of tr (place_of bs layers) [] xs ≡ guards_of tr (place_of (lasts bs) layers) [] ys
   quantifier_guards = guards_of_same (place_of bs layers) (place_of (lasts bs) layers) (same_slot bs layers) tr [] xs ∙ ap (guards_of tr (place_of (lasts bs) layers) []) e
 
-  quantifier_seen : seen_by (place_of bs layers) [] xs ≡ seen_by (place_of (lasts bs) layers) [] ys
+  pub quantifier_seen : seen_by (place_of bs layers) [] xs ≡ seen_by (place_of (lasts bs) layers) [] ys
   quantifier_seen = seen_by_same (place_of bs layers) (place_of (lasts bs) layers) (same_slot bs layers) [] xs ∙ ap (seen_by (place_of (lasts bs) layers) []) e
 
 pub ready_slim : (tr : Trace) (f : Form) (e : Extent) (layers : Layers) → ready tr e layers f ≡ ready tr e layers (slim f)

@@ -5,3 +5,4 @@ pub mod Laid
 pub mod Quantifying
 pub mod Rows
 pub mod Answer
+pub mod Claiming

@@ -7,7 +7,8 @@ ghost use Rattle.sap_formula.specs.View.{form};
 ghost use Rattle.sap_judge.specs.code.Laid.{action, layers, place};
 ghost use Rattle.sap_match.specs.View.{atom};
 ghost use Rattle.sap_search.specs.View.{guard};
-ghost use Rattle.sap_judge.specs.code.Ready.{atom_of, guards, guards_of, marked, marked_all, noted, seen_behind, seen_by, slot_at, slot_count, slot_in};
+ghost use Rattle.sap_judge.specs.Guards.{guards};
+ghost use Rattle.sap_judge.specs.code.Ready.{atom_of, guards_of, marked, marked_all, noted, seen_behind, seen_by, slot_at, slot_count, slot_in};
 ghost use Rattle.sap_terms.specs.Tree.{trees_of};
 ghost use Rattle.sap_terms.specs.View.{tree};
 

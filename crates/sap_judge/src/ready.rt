@@ -1,25 +1,31 @@
 //! Traces made ready for judging.
-ghost use Rattle.std.specs.Prelude.{◌≡◌, ◌^◌, ◌-◌, IfOk, map, min};
+ghost use Rattle.std.specs.Prelude.{◌≡◌, ◌^◌, ◌-◌, [], IfOk, map, min};
 ghost use Rattle.sap_formula.specs.Cost.{form_cost};
 ghost use Rattle.sap_formula.specs.Laws.{IsClosed};
+ghost use Rattle.sap_judge.specs.Reasons.{Explains};
 ghost use Rattle.sap_judge.specs.Verdict.{IsVerdict};
 ghost use Rattle.sap_formula.specs.View.{form};
 ghost use Rattle.sap_judge.specs.code.Answer.{IsAnswer};
+ghost use Rattle.sap_judge.specs.code.Claiming.{claim_of};
 ghost use Rattle.sap_judge.specs.code.Folded.{judged};
+ghost use Rattle.sap_judge.specs.declared.extent.Extent.TheVariants.{Whole};
+ghost use Rattle.sap_search.specs.Explained.{explained};
+ghost use Rattle.sap_search.specs.View.{reason_of};
 ghost use Rattle.sap_match.specs.View.{sight};
-ghost use Rattle.sap_judge.specs.code.Ready.{sights};
+ghost use Rattle.sap_judge.specs.Guards.{sights};
 ghost use Rattle.sap_terms.specs.Message.{IsMessageTrace};
 ghost use Rattle.sap_terms.specs.Signature.{Sig};
 
+use crate::claiming::claim_box;
 use crate::extent::Extent;
-use crate::laws::plans_decide_truth;
+use crate::laws::{claims_give_reasons, plans_decide_truth};
 use crate::laying::Levels;
 use crate::readying::ready_box;
 use crate::rows::{Rows, facts_in, rows_of};
 use crate::{MOST_COST, Verdict};
 use sap_formula::{CountsFacts, Formula, cost_on};
 use sap_match::{Moments, Sighted, moments_of};
-use sap_search::is_true;
+use sap_search::{Chosen, is_true, reason_by};
 use sap_terms::{Mem, Name, Trace};
 use std::alloc::Global;
 use std::marker::Model;
@@ -80,6 +86,21 @@ impl<'t> ReadyTrace<'t> {
         plans_decide_truth();
         answer(alloc, f, self)
     }
+
+    /// The reason why the formula is true on the trace, where `value` is true, or why it isn't; none where it has the other truth value.
+    /// It judges the formula once more, also where that costs more than `MOST_COST`: ask `judge` first. Want of memory is the
+    /// only error. It takes time and recurses as `judge` does.
+    pub fn reason<'a>(
+        &'a self,
+        alloc: Global,
+        f: &'a Formula,
+        value: bool,
+    ) -> Result<Option<Vec<Chosen<'a>>>, Mem>
+        ensures { (g : Sig) → IsMessageTrace g self.now → IsClosed g (form f.now) → IfOk result (λ r. Explains g (form f.now) self.now value (reason_of r)) }
+    {
+        claims_give_reasons();
+        found_reason(alloc, f, self, value)
+    }
 }
 
 // They are looked up.
@@ -99,6 +120,20 @@ fn is_found(alloc: Global, f: &Formula, trace: &ReadyTrace<'_>) -> Result<bool, 
     let outside = Levels::Outside;
     let plan = ready_box(alloc, trace, Extent::Whole, &outside, f)?;
     is_true(alloc, &trace.moments, &plan)
+}
+
+// The choices that show the claim that its truth value is this.
+fn found_reason<'a>(
+    alloc: Global,
+    f: &'a Formula,
+    trace: &'a ReadyTrace<'_>,
+    value: bool,
+) -> Result<Option<Vec<Chosen<'a>>>, Mem>
+    ensures { IfOk result (λ r. reason_of r ≡ explained trace.now (claim_of trace.now Whole [] value (form f.now)) []) }
+{
+    let outside = Levels::Outside;
+    let claim = claim_box(alloc, trace, Extent::Whole, value, &outside, f)?;
+    reason_by(alloc, &trace.moments, &claim)
 }
 
 fn answer(alloc: Global, f: &Formula, trace: &ReadyTrace<'_>) -> Result<Verdict, Mem>

@@ -98,7 +98,7 @@ fn guarded<'a>(
 
 // Its guards, and in order the names that they give slots.
 #[inline(never)]
-fn ready_guards<'a>(
+pub(crate) fn ready_guards<'a>(
     alloc: Global,
     trace: &'a ReadyTrace<'_>,
     every: bool,
@@ -145,7 +145,7 @@ fn collect_over<'a>(every: bool, f: &'a Formula, out: &mut Items<ActionAtom<'a>>
 }
 
 // How much of the body is left beside them.
-fn beside(every: bool) -> Extent
+pub(crate) fn beside(every: bool) -> Extent
     ensures { result ≡ beside every }
 {
     if every {
@@ -237,7 +237,7 @@ fn related<'a>(
 }
 
 // How much of its first part is left.
-fn left_part(like: &Formula, extent: Extent) -> Extent
+pub(crate) fn left_part(like: &Formula, extent: Extent) -> Extent
     ensures { result ≡ left_part (form like.now) extent }
 {
     match like {
@@ -248,7 +248,7 @@ fn left_part(like: &Formula, extent: Extent) -> Extent
 }
 
 // And of its second.
-fn right_part(like: &Formula, extent: Extent) -> Extent
+pub(crate) fn right_part(like: &Formula, extent: Extent) -> Extent
     ensures { result ≡ right_part (form like.now) extent }
 {
     match like {

@@ -1,6 +1,6 @@
 //! The facts of a trace by their names.
 ghost use Rattle.std.specs.Prelude.{◌≡◌, IfOk, OnOk, map};
-ghost use Rattle.sap_judge.specs.code.Ready.{sights, sights_at};
+ghost use Rattle.sap_judge.specs.Guards.{sights, sights_at};
 ghost use Rattle.sap_judge.specs.code.Rows.{Adds, IsOf, if_named, row_of};
 ghost use Rattle.sap_match.specs.View.{sight};
 

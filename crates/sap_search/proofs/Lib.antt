@@ -1,1 +1,2 @@
 pub mod SearchSteps
+pub mod ExplainSteps

@@ -64,6 +64,8 @@ pub ruleset connective_laws = (settled_is, last_is)
 
 pub ruleset search_laws = (cut)
 
+pub ruleset front_laws = (front_same, front_on)
+
 pub none_leads : {X : Type 0} (d : Bool) (p : X → Bool) → any_or_all d p [] ≡ d
 none_leads true p = refl
 none_leads false p = refl
@@ -79,10 +81,10 @@ one_leads false p x = or_false (p x) where
   or_false false = refl
 
 -- the guard at an index in front of those behind it
-guards_got : (gs : List GuardPlan) (k : ℕ) (g : GuardPlan) → slice_get gs k ≡ Some g → map guard (drop k gs) ≡ guard g ∷ map guard (drop (k + 1) gs)
+pub guards_got : (gs : List GuardPlan) (k : ℕ) (g : GuardPlan) → slice_get gs k ≡ Some g → map guard (drop k gs) ≡ guard g ∷ map guard (drop (k + 1) gs)
 guards_got gs k g h = ap (map guard) (drop_got gs k g h)
 
-single : (xs : List Sighted) (x : Sighted) → length xs ≡ 1 → slice_get xs 0 ≡ Some x → map sight xs ≡ sight x ∷ []
+pub single : (xs : List Sighted) (x : Sighted) → length xs ≡ 1 → slice_get xs 0 ≡ Some x → map sight xs ≡ sight x ∷ []
 single [] x l h = absurd (cc)
 single (y ∷ []) x l h = let q : y ≡ x = cc in ap (λ z. sight z ∷ []) q
 single (y ∷ z ∷ zs) x l h = absurd (omega (arith, l))

@@ -1,4 +1,6 @@
 pub mod Plan
 pub mod Planned
+pub mod Claims
+pub mod Explained
 pub mod View
 pub mod code

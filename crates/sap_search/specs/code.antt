@@ -2,3 +2,4 @@
 pub mod Connectives
 pub mod Chosen
 pub mod PlanSize
+pub mod Answers

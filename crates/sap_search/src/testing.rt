@@ -55,7 +55,11 @@ pub fn is_true<'a>(alloc: Global, trace: &'a Moments<'_>, p: &Plan<'a>) -> Resul
 // Whether the formula is true where slots hold what they hold.
 #[cycle(tested)]
 #[tactic(auto, using(crate::proofs::SearchSteps::test_laws))]
-fn test<'a>(trace: &'a Moments<'_>, p: &Plan<'a>, values: &mut Vec<Value<'a>>) -> Result<bool, Mem>
+pub(crate) fn test<'a>(
+    trace: &'a Moments<'_>,
+    p: &Plan<'a>,
+    values: &mut Vec<Value<'a>>,
+) -> Result<bool, Mem>
     ensures answer { IfOk result (λ b. b ≡ planned trace.now (plan p.now) (map held values.old.items)) }
     ensures same { OnOk result (values.new.items ≡ values.old.items) }
 {

@@ -1,6 +1,7 @@
 -- The plain values of what slots are laid out by, without the addresses of their parts.
 use Rattle.std.specs.Prelude.{[], ◌∷◌}
-use Rattle.sap_judge.specs.code.Ready.{Action, Layers, Place, inside, place_of}
+use Rattle.sap_judge.specs.Guards.{Action}
+use Rattle.sap_judge.specs.code.Ready.{Layers, Place, inside, place_of}
 use Rattle.sap_judge.specs.declared.laying.ActionAtom.{ActionAtom}
 use Rattle.sap_judge.specs.declared.laying.Levels.{Levels}
 use Rattle.sap_judge.specs.declared.laying.Levels.TheVariants.{Outside, Inside'}

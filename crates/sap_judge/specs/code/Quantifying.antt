@@ -3,7 +3,8 @@ use Rattle.std.specs.Prelude.{ℕ, Bool, true, false, List, [], ◌∷◌}
 use Rattle.sap_formula.specs.Checked.{premise}
 use Rattle.sap_formula.specs.Form.{Form, both, either, implies, same_time}
 use Rattle.sap_judge.specs.code.Folded.{and_by, constant, iff_by, imp_by, or_by}
-use Rattle.sap_judge.specs.code.Ready.{Action, Layers, guards, guards_of, left_of_imp, place_of, ready, seen_by, slot_in, under_and}
+use Rattle.sap_judge.specs.Guards.{Action, guards}
+use Rattle.sap_judge.specs.code.Ready.{Layers, guards_of, left_of_imp, place_of, ready, seen_by, slot_in, under_and}
 use Rattle.sap_search.specs.Plan.{Plan, at_once, before, search}
 use Rattle.sap_formula.specs.declared.binder.Binder.{Binder}
 use Rattle.sap_judge.specs.declared.extent.Extent.{Extent}

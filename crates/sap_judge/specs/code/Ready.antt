@@ -7,25 +7,12 @@ use Rattle.sap_formula.specs.Form.{Form, action, both, earlier, either, equal, e
 use Rattle.sap_formula.specs.declared.binder.Binder.{Binder}
 use Rattle.sap_judge.specs.declared.extent.Extent.{Extent}
 use Rattle.sap_judge.specs.declared.extent.Extent.TheVariants.{Whole, Body, Rest}
-use Rattle.sap_match.specs.Atoms.{Atom, Sight}
+use Rattle.sap_judge.specs.Guards.{Action, guards, sights}
+use Rattle.sap_match.specs.Atoms.{Atom}
 use Rattle.sap_search.specs.Plan.{Guard, Plan, alike, always, and_then, at_once, before, equals, if_then, inverse, or_else, search, shows}
 use Rattle.sap_terms.specs.Trace.{Trace}
 use Rattle.sap_terms.specs.Tree.{Tree, Trees, apply, fresh, more, none, public, trees_of, variable}
 use Rattle.sap_terms.specs.declared.fact.Fact.{Fact}
-
--- the facts of this name, at time k
-abbrev pub sights_at : List ℕ → ℕ → List Fact → List Sight
-sights_at n k [] = []
-sights_at n k (x ∷ xs) = if bytes_eq n x.name then record { time = k; fact = x } ∷ sights_at n k xs else sights_at n k xs
-
--- at the times from k on
-abbrev pub sights_from : List ℕ → ℕ → Trace → List Sight
-sights_from n k [] = []
-sights_from n k (p ∷ tr) = sights_at n k p ++ sights_from n (k + 1) tr
-
--- at all times of the trace
-abbrev pub sights : List ℕ → Trace → List Sight
-sights n tr = sights_from n 0 tr
 
 -- the names of the slots, in their order, quantifier by quantifier, the innermost first
 abbrev pub Layers : Type 0
@@ -77,27 +64,6 @@ abbrev mutual
   marked_all p seen none = record { marks = []; seen = seen }
   marked_all p seen (more t ts) =
       record { marks = (marked p seen t).marks ++ (marked_all p (marked p seen t).seen ts).marks; seen = (marked_all p (marked p seen t).seen ts).seen }
-
--- an action atom as it is written
-pub record Action : Type 0 where
-  pub pattern : Fact
-  pub time : List ℕ
-
--- those among the conjuncts
-abbrev pub guards : Form → List Action
-guards (both f g) = guards f ++ guards g
-guards (action f i) = record { pattern = f; time = i } ∷ []
-guards truth = []
-guards falsity = []
-guards (equal s t) = []
-guards (same_time i j) = []
-guards (earlier i j) = []
-guards (negation f) = []
-guards (either f g) = []
-guards (implies f g) = []
-guards (equivalent f g) = []
-guards (every bs f) = []
-guards (exists bs f) = []
 
 -- an action atom with its slots
 abbrev pub atom_of : Place → List (List ℕ) → Action → Atom

@@ -3,7 +3,7 @@ use Rattle.std.specs.Prelude.{◌≡◌, ℕ, List, [], ◌∷◌, ◌++◌, map
 use Rattle.std.specs.Str.{bytes_eq}
 use Rattle.sap_match.specs.View.{sight}
 use Rattle.sap_match.specs.Atoms.{Sight}
-use Rattle.sap_judge.specs.code.Ready.{sights}
+use Rattle.sap_judge.specs.Guards.{sights}
 use Rattle.sap_match.specs.declared.sighted.Sighted.{Sighted}
 use Rattle.sap_terms.specs.NameMap.{items_at}
 use Rattle.sap_terms.specs.Trace.{Trace}

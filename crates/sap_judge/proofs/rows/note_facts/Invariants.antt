@@ -1,5 +1,5 @@
 use Rattle.std.proofs.Common.{◌≡◌, ◌++◌, ℕ, List, drop}
-use Rattle.sap_judge.specs.code.Ready.{sights_at}
+use Rattle.sap_judge.specs.Guards.{sights_at}
 use Rattle.sap_judge.specs.code.Rows.{row_of}
 use Rattle.sap_judge.proofs.rows.note_facts.Given as goal
 

@@ -1,0 +1,6 @@
+use Rattle.std.proofs.Common.{◌≡◌, ◌-◌, drop, length}
+use Rattle.sap_verdicts.specs.Standing.{standing}
+use Rattle.sap_verdicts.proofs.standing.standing_of.Given as goal
+
+abbrev pub invariant-loop-k : goal.invariant-loop-k
+invariant-loop-k l = l.so_far ≡ standing (drop (length l.verdicts - l.k) l.verdicts)

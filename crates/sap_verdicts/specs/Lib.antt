@@ -1,0 +1,4 @@
+pub mod Modes
+pub mod Standing
+pub mod VerdictText
+pub mod VerdictExamples

@@ -1,0 +1,70 @@
+-- The line of a verdict: what the formula is, whether it is true on the run, what that says of the file, and why.
+use Rattle.std.specs.Prelude.{ℕ, codes, decimal, slice_get, List, [], ◌∷◌, ◌++◌, Option, Some, None, map}
+use Rattle.sap_called.specs.NamedTerms.{named}
+use Rattle.sap_called.specs.Names.{Draw}
+use Rattle.sap_formula.specs.declared.binder.Binder.{Binder}
+use Rattle.sap_formula.specs.declared.binder.Binder.TheVariants.{Message, Time}
+use Rattle.sap_formula.specs.declared.lemma.Mode.TheVariants.{AllTraces, ExistsTrace}
+use Rattle.sap_grammar.specs.TermText.{tree_text, variable_text}
+use Rattle.sap_judge.specs.declared.verdict.Verdict.{Verdict}
+use Rattle.sap_judge.specs.declared.verdict.Verdict.TheVariants.{Holds, Fails, TooCostly}
+use Rattle.sap_match.specs.Atoms.{Held, held_term, held_time}
+use Rattle.sap_search.specs.Claims.{Chosen}
+use Rattle.sap_verdicts.specs.declared.standing.Standing.{Standing}
+use Rattle.sap_verdicts.specs.declared.standing.Standing.TheVariants.{Counts, Excluded, Undecided}
+use Rattle.sap_verdicts.specs.declared.statement.Statement.{Statement}
+use Rattle.sap_verdicts.specs.declared.statement.Statement.TheVariants.{Restriction, Lemma}
+
+-- what the formula is
+abbrev pub kind_text : Statement → List ℕ
+kind_text Restriction = codes " (restriction)"
+kind_text (Lemma AllTraces) = codes " (all-traces)"
+kind_text (Lemma ExistsTrace) = codes " (exists-trace)"
+
+-- the verdict, with the cost where that is too high
+abbrev pub verdict_words : Verdict → List ℕ
+verdict_words Holds = codes "holds"
+verdict_words Fails = codes "fails"
+verdict_words (TooCostly cost) = codes "too costly: " ++ (decimal cost ++ codes ", the most is 10000000")
+
+-- what decides a lemma where the run counts
+abbrev pub decided : List ℕ → Standing → List ℕ
+decided what Counts = codes ", " ++ what
+decided what Excluded = codes ", but this run doesn't count"
+decided what Undecided = codes ", if this run counts"
+
+-- what the verdict says of the file
+abbrev pub conclusion : Statement → Verdict → Standing → List ℕ
+conclusion s (TooCostly cost) c = []
+conclusion Restriction Holds c = []
+conclusion Restriction Fails c = codes ", so this run doesn't count"
+conclusion (Lemma AllTraces) Holds c = codes " on this run"
+conclusion (Lemma AllTraces) Fails c = decided (codes "so it is false") c
+conclusion (Lemma ExistsTrace) Holds c = decided (codes "so it is true") c
+conclusion (Lemma ExistsTrace) Fails c = codes " on this run"
+
+-- the number of the line that shows the time
+abbrev pub number_or_none : Option ℕ → ℕ
+number_or_none None = 0
+number_or_none (Some n) = n
+
+-- a variable and what it stands for: a term with its names as they are called, or a time by the line that shows it
+abbrev pub choice_text : List Draw → List ℕ → Binder → Held → List ℕ
+choice_text ds lines (Message v) (held_term t) = variable_text v ++ (codes " = " ++ tree_text (named ds t))
+choice_text ds lines (Message v) (held_time k) = []
+choice_text ds lines (Time n) (held_term t) = []
+choice_text ds lines (Time n) (held_time k) = codes "#" ++ (n ++ (codes " = line " ++ decimal (number_or_none (slice_get lines k))))
+
+-- each behind a comma
+abbrev pub more_choices : List Draw → List ℕ → List Chosen → List ℕ
+more_choices ds lines [] = []
+more_choices ds lines (c ∷ cs) = codes ", " ++ (choice_text ds lines c.binder c.value ++ more_choices ds lines cs)
+
+-- the reason, where choices are told, behind two hyphens
+abbrev pub reason_text : List Draw → List ℕ → List Chosen → List ℕ
+reason_text ds lines [] = []
+reason_text ds lines (c ∷ cs) = codes " -- " ++ (choice_text ds lines c.binder c.value ++ more_choices ds lines cs)
+
+-- the line of a formula of this name
+abbrev pub verdict_line : List Draw → List ℕ → List ℕ → Statement → Verdict → Standing → List Chosen → List ℕ
+verdict_line ds lines name s v c cs = name ++ (kind_text s ++ (codes ": " ++ (verdict_words v ++ (conclusion s v c ++ (reason_text ds lines cs ++ codes "\n")))))
