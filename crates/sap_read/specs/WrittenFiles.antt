@@ -16,6 +16,7 @@ use Rattle.sap_read.specs.ItemGrammar.{AreItems}
 use Rattle.sap_read.specs.LocatedItems.{definitions_at, located_bodies, main_at}
 use Rattle.sap_read.specs.declared.fault.ReadFault.{ReadFault}
 use Rattle.sap_read.specs.declared.fault.ReadFault.TheVariants.{Mem, Lex, Header, Syntax, NoProcess, TwoProcesses, UnknownProcess, DuplicateName, FunctionClash, Parameters, Arguments, TooMany, TooDeep, Large, Flawed, Ill, Lock, Formula}
+use Rattle.sap_read.specs.declared.written.FileProcesses.{FileProcesses}
 use Rattle.sap_read.specs.declared.written.WrittenFile.{WrittenFile}
 
 -- the bytes are a file of these tokens and items, which nothing refuses before its uses are looked at; it has this name, declares this,
@@ -39,6 +40,12 @@ pub record IsWrittenFile (z : List ℕ) (w : WrittenFile) : Type 0 where
       ≡ definitions_at (located_bodies items)
   pub main_stands : main_at (located_bodies items)
       ≡ Some (record { process = located w.processes.main.value; behind = w.processes.behind_main })
+
+-- these are the processes of a file of these bytes, as they are written
+pub record AreWrittenProcesses (z : List ℕ) (ps : FileProcesses) : Type 0 where
+  pub file : WrittenFile
+  pub is : IsWrittenFile z file
+  pub same : file.processes ≡ ps
 
 -- the cause is one of those that are looked for before the uses of a file
 abbrev pub IsEarly : ReadFault → Type 0

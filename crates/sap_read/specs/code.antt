@@ -6,3 +6,4 @@ pub mod Parting
 pub mod Judged
 pub mod Label
 pub mod ProcessLaws
+pub mod Contents

@@ -132,7 +132,7 @@ fn judge_file(alloc: Global, written: WrittenFile) -> Result<Box<File>, ReadFaul
 }
 
 /// The file of this name with what was declared and these parts.
-fn file_of(
+pub(crate) fn file_of(
     alloc: Global,
     name: Name,
     declared: Declared,
@@ -178,9 +178,9 @@ fn boxed_file(
 
 /// What a file is made of behind its header, but for what it declares.
 #[derive(Drop)]
-struct Content {
-    process: Box<Process>,
-    checked: Checked,
+pub(crate) struct Content {
+    pub(crate) process: Box<Process>,
+    pub(crate) checked: Checked,
 }
 
 /// The parts of what is written, or why it is refused: the process comes before the formulas.

@@ -28,7 +28,7 @@ pub use by_hand::{
 pub use entry::Entry;
 pub use fault::ReadFault;
 pub use file::{File, read_file, read_file_boxed};
-pub use judged::{check_written, file_process};
+pub use judged::{FileAsWritten, check_written, file_process, read_as_written};
 pub use laws::{
     bodies_are_one, bodies_are_spelled, definitions_are_in_order, file_processes_are_one,
     file_unless_refused, files_are_named_apart, files_are_printable, files_are_ready,
