@@ -3,14 +3,14 @@
 
 usage: bench/why_rows.py
 
-`bench/why-marks` has a row for each file, written as the rows of the tables are, with what refuses it behind `%`. `bench/why/` has
-whole files, whose first line is `-- ` and what refuses them. In both `@@` stands before the word at which the mistake is, or behind
-the last word; a file without `@@` has no place. Where one comes to that word through uses of a `let`, `&&` stands before the name of
-the one use, or `&1&`, `&2&` and so on before the names of several, the innermost first. What is expected in place of a word that is
-in no grammar is found by the grammar of docs/files.md (why_expected.py); where levels have a say it stands by hand behind ` = `. Where a
-row of `sap_cures` fits at the mistake, its sentence stands by hand behind that and ` => `. What is counted here from the marks is line,
-column, the bytes of the word, and the lines of the uses, and N in a cause is the offset of the mark. Nothing is taken from what the
-program prints.
+`bench/why-marks` has a row for each file, written as the rows of the tables are, with what refuses it behind `%`. `bench/why/` has whole
+files, whose first line is `-- ` and what refuses them. In both `@@` stands before the word at which the mistake is, or behind the last
+word; a file without `@@` has no place. Where one comes to that word through uses of a `let`, `&&` stands before the name of the one use,
+or `&1&`, `&2&` and so on before the names of several, the innermost first. Where a cause has another place, `@2@` stands before its
+word. What is expected in place of a word that is in no grammar is found by the grammar of docs/files.md (why_expected.py); where levels
+have a say it stands by hand behind ` = `. Where a row of `sap_cures` fits at the mistake, its sentence stands by hand behind that and
+` => `. What is counted here from the marks is line, column, the bytes of the word, and the lines of the uses, and N in a cause is the
+offset of the mark. Nothing is taken from what the program prints.
 """
 import glob
 import os
@@ -60,7 +60,7 @@ ADVICE = [
 ]
 
 SKIP = re.compile(rb"(?:[ \t\r\n]|//[^\n]*|/\*.*?\*/)*", re.S)
-MARK = re.compile(r"@@|&([0-9]*)&")
+MARK = re.compile(r"@@|@2@|&([0-9]*)&")
 MOST_USES = 8
 WORD = re.compile(rb"[A-Za-z][A-Za-z0-9_]*|[0-9]+|'[ -&(-~]*'|==>|<=>|--\[|\]->|-->|\|\||.", re.S)
 
@@ -120,10 +120,10 @@ def picture(data, start, end):
 
 
 def unmarked(text):
-    """The text without its marks, where `@@` stood, and where the uses, the innermost first."""
-    bare, at, uses, end = "", None, {}, 0
+    """The text without its marks, where `@@` stood, where `@2@` did, and where the uses, the innermost first."""
+    bare, at, other, uses, end = "", None, None, {}, 0
     if "@@" not in text:
-        return text, None, []
+        return text, None, None, []
     for mark in MARK.finditer(text):
         if mark.group() == "@@" and at is not None:
             continue
@@ -131,12 +131,15 @@ def unmarked(text):
         end = mark.end()
         if mark.group() == "@@":
             at = len(bare)
+        elif mark.group() == "@2@":
+            assert other is None, text
+            other = len(bare)
         else:
             number = int(mark.group(1) or "1")
             assert number not in uses, text
             uses[number] = len(bare)
     assert sorted(uses) == list(range(1, len(uses) + 1)), text
-    return bare + text[end:], at, [uses[number] for number in sorted(uses)]
+    return bare + text[end:], at, other, [uses[number] for number in sorted(uses)]
 
 
 def used(data, uses):
@@ -152,7 +155,7 @@ def expected(marked, cause):
     if cause == "accepted":
         return marked, "accepted\n"
     cause, _, cure = cause.partition(" => ")
-    bare, at, uses = unmarked(marked.decode("latin-1"))
+    bare, at, other, uses = unmarked(marked.decode("latin-1"))
     bare = bare.encode("latin-1")
     text, told = "", cause
     by_hand = None
@@ -161,6 +164,8 @@ def expected(marked, cause):
         told = cause
     if at is not None:
         text = picture(bare, *place(bare, at, cause)) + used(bare, uses)
+        if other is not None:
+            text += "and " + picture(bare, *place(bare, other, cause))
         if re.fullmatch(r"no theory header|line \d+: not in the grammar", cause):
             text += expectation(bare, at, by_hand)
         told = cause.replace("byte N", "byte %d" % at)

@@ -23,12 +23,17 @@ use Rattle.sap_explain.specs.BytesIn.{bytes_in}
 use Rattle.sap_explain.specs.Explained.{IsExplanation, IsPlaceTold}
 use Rattle.sap_explain.specs.ExpectedTold.{IsExpectedText, IsExpectedTold, IsOpenText, at_word, is_of_words, no_such, no_word, none_open, of_kinds, of_levels, one_open, position_text}
 use Rattle.sap_explain.proofs.Cures.{one_advice}
+use Rattle.sap_explain.specs.OtherTold.{IsOtherPlaceOf, IsOtherTold}
+use Rattle.sap_explain.proofs.OtherTold.{same_other}
 use Rattle.sap_explain.proofs.Telling.{OnePlace, OnePosition, OneText, same_told}
 
 -- pieces of a text, put last one by one
 pub three_put : (old a b new x y w : List ℕ) → a ≡ old ++ x → b ≡ a ++ y → new ≡ b ++ w → new ≡ old ++ (x ++ (y ++ w))
 three_put old a b new x y w e f g =
     g ∙ ap (λ (t : List ℕ). t ++ w) (f ∙ ap (λ (t : List ℕ). t ++ y) e) ∙ ap (λ (t : List ℕ). t ++ w) (append_assoc old x y) ∙ append_assoc old (x ++ y) w ∙ ap (λ (t : List ℕ). old ++ t) (append_assoc x y w)
+
+pub four_put : (old a b c new x y w v : List ℕ) → a ≡ old ++ x → b ≡ a ++ y → c ≡ b ++ w → new ≡ c ++ v → new ≡ old ++ (x ++ (y ++ (w ++ v)))
+four_put old a b c new x y w v e f g h = three_put old a b new x y (w ++ v) e f (h ∙ ap (λ (t : List ℕ). t ++ v) g ∙ append_assoc b w v)
 
 -- that something is open
 pub open_is : {A E : Type 0} (z : List ℕ) (ts : List Token) (k : ℕ) (s : Stretch) (p : Position) (old a b new : List ℕ) (r : Result A E) → s ≡ stretch_at ts k → IsPosition z s.from p
@@ -52,15 +57,16 @@ pub none_innermost : (z : List ℕ) (ts : List Token) (k : ℕ) (old : List ℕ)
     → (t : List ℕ) × (old ≡ old ++ t) × IsOpenText z ts (innermost_open (take k (words_of z ts))) t
 none_innermost z ts k old e = ([], sym (append-nil old), subst (λ (o : Option ℕ). IsOpenText z ts o []) (behind z ts k None e) none_open)
 
--- a place, what is expected there, and what to change
-pub explanation_is : {A E : Type 0} (z : List ℕ) (e : ReadFault) (old a b new : List ℕ) (r : Result A E) → (x : List ℕ) × (a ≡ old ++ x) × IsPlaceTold z e x → (y : List ℕ) × (b ≡ a ++ y) × IsExpectedTold z e y
-    → OnOk r ((t : List ℕ) × (new ≡ b ++ (t ++ (10 ∷ []))) × IsAdvice z e t) → OnOk r ((t : List ℕ) × (new ≡ old ++ t) × IsExplanation z e t)
-explanation_is z e old a b new (Ok v) x y f = (
-  x.0 ++ (y.0 ++ (f.0 ++ (10 ∷ []))),
-  three_put old a b new x.0 y.0 (f.0 ++ (10 ∷ [])) x.1 y.1 f.1,
-  record { place = x.0; is_place = x.2; wanted = y.0; is_wanted = y.2; change = f.0; is_change = f.2; text = refl },
+-- a place, the other one, what is expected there, and what to change
+pub explanation_is : {A E : Type 0} (z : List ℕ) (e : ReadFault) (old a b c new : List ℕ) (r : Result A E) → (x : List ℕ) × (a ≡ old ++ x) × IsPlaceTold z e x
+    → (w : List ℕ) × (b ≡ a ++ w) × IsOtherTold z e w → (y : List ℕ) × (c ≡ b ++ y) × IsExpectedTold z e y
+    → OnOk r ((t : List ℕ) × (new ≡ c ++ (t ++ (10 ∷ []))) × IsAdvice z e t) → OnOk r ((t : List ℕ) × (new ≡ old ++ t) × IsExplanation z e t)
+explanation_is z e old a b c new (Ok v) x w y f = (
+  x.0 ++ (w.0 ++ (y.0 ++ (f.0 ++ (10 ∷ [])))),
+  four_put old a b c new x.0 w.0 y.0 (f.0 ++ (10 ∷ [])) x.1 w.1 y.1 f.1,
+  record { place = x.0; is_place = x.2; other = w.0; is_other = w.2; wanted = y.0; is_wanted = y.2; change = f.0; is_change = f.2; text = refl },
 )
-explanation_is z e old a b new (Err m) x y f = tt
+explanation_is z e old a b c new (Err m) x w y f = tt
 
 -- nothing more
 pub nothing_is : {P : List ℕ → Type 0} (old : List ℕ) → P [] → (t : List ℕ) × (old ≡ old ++ t) × P t
@@ -145,9 +151,10 @@ module _
     one_told e t u (no_such g) (no_word never) = refl
     one_told e t u (no_such g) (no_such h) = refl
 
-    pub one_explanation_is : OnePlace → OneText → (e : ReadFault) (t u : List ℕ) → IsExplanation z e t → IsExplanation z e u → t ≡ u
-    one_explanation_is one_place one_text e t u x y =
+    pub one_explanation_is : OnePlace → ((s t : Stretch) (e : ReadFault) → IsOtherPlaceOf z e s → IsOtherPlaceOf z e t → s ≡ t) → OneText → (e : ReadFault) (t u : List ℕ) → IsExplanation z e t → IsExplanation z e u → t ≡ u
+    one_explanation_is one_place one_other one_text e t u x y =
         let places : x.place ≡ y.place = same_told one_place one_position one_text z e x.place y.place x.is_place y.is_place in
+        let others : x.other ≡ y.other = same_other z e (λ a b. one_other a b e) (one_text z) x.other y.other x.is_other y.is_other in
         let wanted : x.wanted ≡ y.wanted = one_told e x.wanted y.wanted x.is_wanted y.is_wanted in
         let changes : x.change ≡ y.change = one_advice z e (only z) x.change y.change x.is_change y.is_change in
-        x.text ∙ (λ i. places i ++ (wanted i ++ (changes i ++ (10 ∷ [])))) ∙ sym y.text
+        x.text ∙ (λ i. places i ++ (others i ++ (wanted i ++ (changes i ++ (10 ∷ []))))) ∙ sym y.text

@@ -4,5 +4,6 @@ pub mod OnePlace
 pub mod CausesWithPath
 pub mod Nowhere
 pub mod Telling
+pub mod OtherTold
 pub mod Cures
 pub mod ExpectedOnce

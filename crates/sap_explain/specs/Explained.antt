@@ -1,4 +1,4 @@
--- What is told of a refused file behind the line that refuses it: where its cause stands, what is expected there, and what to change.
+-- What is told of a refused file behind the line that refuses it: where its cause stands, and its other place, what is expected there, and what to change.
 use Rattle.std.specs.Prelude.{◌≡◌, ◌-◌, ℕ, zero, suc, codes, decimal, List, [], ◌∷◌, ◌++◌, length, take}
 use Rattle.sap_read.specs.declared.fault.ReadFault.{ReadFault}
 use Rattle.sap_stretches.specs.declared.position.Position.{Position}
@@ -7,6 +7,7 @@ use Rattle.sap_read_places.specs.declared.told.Told.{Told}
 use Rattle.sap_explain.specs.BytesIn.{bytes_in}
 use Rattle.sap_explain.specs.Cures.{IsAdvice}
 use Rattle.sap_explain.specs.ExpectedTold.{IsExpectedTold}
+use Rattle.sap_explain.specs.OtherTold.{IsOtherTold}
 use Rattle.sap_stretches.specs.Positions.{IsPosition, IsPlaceText}
 use Rattle.sap_explain.specs.Told.{IsPlaceOf}
 
@@ -42,13 +43,15 @@ pub data IsPlaceTold (z : List ℕ) (e : ReadFault) : List ℕ → Type 0 where
       → AreUsesTold z t.uses user → IsPlaceTold z e (place ++ user)
   nowhere : ((t : Told) → IsPlaceOf z e t → ⊥) → IsPlaceTold z e []
 
--- the text tells where the cause stands; then, of a word with which no file goes on, what is expected there; and then, on a line of its
--- own, what to change
+-- the text tells where the cause stands, and its other place, where it has two; then, of a word with which no file goes on, what is expected
+-- there; and then, on a line of its own, what to change
 pub record IsExplanation (z : List ℕ) (e : ReadFault) (t : List ℕ) : Type 0 where
   pub place : List ℕ
   pub is_place : IsPlaceTold z e place
+  pub other : List ℕ
+  pub is_other : IsOtherTold z e other
   pub wanted : List ℕ
   pub is_wanted : IsExpectedTold z e wanted
   pub change : List ℕ
   pub is_change : IsAdvice z e change
-  pub text : t ≡ place ++ (wanted ++ (change ++ (10 ∷ [])))
+  pub text : t ≡ place ++ (other ++ (wanted ++ (change ++ (10 ∷ []))))

@@ -12,6 +12,7 @@ ghost use Rattle.sap_stretches.specs.Stretches.{IsInBytes};
 use crate::advice::advice;
 use crate::cure::cure_of;
 use crate::expected_told::push_expected_told;
+use crate::other_told::push_other_told;
 use crate::told::place_of;
 use sap_read::ReadFault;
 use sap_read_places::{Reached, Told};
@@ -155,8 +156,8 @@ fn push_advice(
 }
 
 /// Puts last what is told of bytes that are refused for this cause, behind the line that says so: where it stands, as `push_place`
-/// tells it, if it has a place, and where that is used, if it is in a `let`, and where that is, of eight uses at most; of a word with which
-/// no file goes on what is expected there; and one sentence of what to change, where a row of `sap_cures` fits at the place that of the
+/// tells it, if it has a place, and where that is used, if it is in a `let`, and where that is, of eight uses at most; behind `and` its
+/// other place, where it has two; of a word with which no file goes on what is expected there; and one sentence of what to change, where a row of `sap_cures` fits at the place that of the
 /// first. What was read of the file is lent, as to `place_of`. Want of memory is the only error.
 pub fn push_explanation(
     alloc: Global,
@@ -172,6 +173,7 @@ pub fn push_explanation(
         × IsExplanation bytes.now fault.now t) }
 {
     push_place_told(alloc, text, bytes, tokens, reached, fault)?;
+    push_other_told(alloc, text, bytes, tokens, reached, fault)?;
     push_expected_told(alloc, text, bytes, tokens, fault)?;
     push_advice(alloc, text, bytes, tokens, fault)
 }

@@ -1,5 +1,5 @@
 //! Laws of what is told of places, as contracts of functions that do nothing.
-ghost use Rattle.std.specs.Prelude.{◌≡◌, ◌++◌, ◌∷◌, ℕ, List, [], None, Some, codes};
+ghost use Rattle.std.specs.Prelude.{◌≡◌, ◌++◌, ◌∷◌, ℕ, List, [], None, Some, codes, false};
 ghost use Rattle.sap_read.specs.declared.fault.ReadFault.{ReadFault};
 ghost use Rattle.sap_read.specs.declared.fault.ReadFault.TheVariants.{Arguments, DuplicateName, Flawed, Formula, FunctionClash, Header, Ill, Large, Lex, Lock, Mem as OutOfMemory, NoProcess, Parameters, Syntax, TooDeep, TooMany, TwoProcesses, UnknownProcess};
 ghost use Rattle.sap_text.specs.declared.fault.Lex.{Lex as Bytes};
@@ -8,6 +8,10 @@ ghost use Rattle.sap_formula.specs.declared.fault.FormulaFault.{FormulaFault};
 ghost use Rattle.sap_locks.specs.declared.fault.LockFault.TheVariants.{LockOverParallel, Mem as Wanting, UnlockWithoutLock};
 ghost use Rattle.sap_process.specs.declared.flaw.Flaw.{Flaw};
 ghost use Rattle.sap_read_places.specs.declared.told.Told.{Told};
+ghost use Rattle.sap_restrict.specs.Restrictions.{is_generated};
+ghost use Rattle.sap_terms.specs.Signature.{find_symbol, pairs_alone};
+ghost use Rattle.sap_stretches.specs.declared.stretch.Stretch.{Stretch};
+ghost use Rattle.sap_explain.specs.OtherTold.{HasOtherPlace, IsOtherPlaceOf, IsOtherTold};
 ghost use Rattle.sap_explain.specs.Told.{HasPlace, IsPlaceOf};
 ghost use Rattle.sap_explain.specs.Explained.{AreUsesTold, IsExplanation};
 ghost use Rattle.sap_explain.specs.ExpectedTold.{IsOpenText};
@@ -17,7 +21,7 @@ use sap_expect::{one_expected, table_is_the_grammar};
 use sap_read_places::{path_places, read_places};
 use sap_stretches::one_place_text;
 use sap_text::one_answer;
-use sap_where::one_stretch;
+use sap_where::{one_other_stretch, one_stretch};
 
 /// A law: a cause stands at one place of the bytes at most.
 pub fn one_place()
@@ -42,12 +46,27 @@ pub fn causes_with_places()
         × (HasPlace (Lock Wanting) → ⊥) }
 {}
 
+/// A law: a cause has one other place of the bytes at most.
+pub fn one_other_place()
+    ensures { (z : List ℕ) (e : ReadFault) (s t : Stretch) → IsOtherPlaceOf z e s → IsOtherPlaceOf z e t → s ≡ t }
+{
+    one_other_stretch();
+}
+
+/// A law: which causes have another place in each file that is refused for them.
+pub fn causes_with_other_places()
+    ensures { (line : ℕ) (x : List ℕ) → HasOtherPlace (TwoProcesses line) × HasOtherPlace (Parameters x)
+        × HasOtherPlace (Arguments x) × (is_generated x ≡ false → HasOtherPlace (DuplicateName x))
+        × (find_symbol pairs_alone.symbols x ≡ None → HasOtherPlace (FunctionClash x)) }
+{}
+
 /// A law: of a cause one text is told.
 pub fn one_explanation()
     ensures { (z : List ℕ) (e : ReadFault) (t u : List ℕ) → IsExplanation z e t → IsExplanation z e u
         → t ≡ u }
 {
     one_place();
+    one_other_place();
     one_place_text();
     one_answer();
     table_is_the_grammar();

@@ -18,7 +18,7 @@ some_none e = absurd (cc)
 some_same : {x y : List ℕ} → ◌≡◌ {A = Option (List ℕ)} (Some x) (Some y) → x ≡ y
 some_same e = cc
 
-signature_more : (g : Sig) (xs ys : List Declaration) → signature_from g (xs ++ ys) ≡ signature_from (signature_from g xs) ys
+pub signature_more : (g : Sig) (xs ys : List Declaration) → signature_from g (xs ++ ys) ≡ signature_from (signature_from g xs) ys
 signature_more g [] ys = refl
 signature_more g (x ∷ xs) ys = signature_more (with_declaration g x) xs ys
 

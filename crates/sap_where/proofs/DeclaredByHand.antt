@@ -29,7 +29,7 @@ opened (suc (suc (suc (suc (suc (suc (suc zero))))))) lt h = absurd (false_is h)
 opened (suc (suc (suc (suc (suc (suc (suc (suc zero)))))))) lt h = absurd (false_is h)
 opened (suc (suc (suc (suc (suc (suc (suc (suc (suc i))))))))) lt h = absurd (omega (arith, lt))
 
-abbrev IsX : ℕ → ℕ → Type 0
+abbrev pub IsX : ℕ → ℕ → Type 0
 IsX i k = IsParameter three_headings three_headings_tokens (codes "x") i k
 
 -- in the first x is its first parameter alone
@@ -48,7 +48,7 @@ once_in_first a b lt p q =
     absurd (omega (arith, lt, e, f))
 
 -- in the second it is the first, the third and the fourth
-first_is : IsX 9 12
+pub first_is : IsX 9 12
 first_is = record { can = record { opens = refl; number = 0; place = refl; before = λ j lt. absurd (omega (arith, lt)) }; is = refl }
 
 second_is : IsX 9 16
@@ -67,15 +67,17 @@ no_other k lt p = by p.can.number p.can.place
     by (suc zero) e = absurd (false_is (subst (λ (n : ℕ). names (codes "x") (words_of three_headings (drop n three_headings_tokens)) ≡ true) e p.is))
     by (suc (suc j)) e = absurd (omega (arith, e, lt))
 
-pub twice_at : IsTwice 16
-twice_at = record {
-  item = 9;
-  second = record { is = second_is; first = 12; before = omega arith; is_first = first_is; no_other = no_other };
-  none_before = λ i j lt s. none i j (opened i lt s.is.can.opens) s;
-}
+pub second_there : IsSecond (IsX 9) 16
+second_there = record { is = second_is; first = 12; before = omega arith; is_first = first_is; no_other = no_other }
+
+pub none_in_first : (i j : ℕ) → i < 9 → IsSecond (IsX i) j → ⊥
+none_in_first i j lt s = none (opened i lt s.is.can.opens)
   where
-    none : (i j : ℕ) → i ≡ 0 → IsSecond (IsX i) j → ⊥
-    none i j e s = let t = subst (λ (n : ℕ). IsSecond (IsX n) j) e s in once_in_first t.first j t.before t.is_first t.is
+    none : i ≡ 0 → ⊥
+    none e = let t = subst (λ (n : ℕ). IsSecond (IsX n) j) e s in once_in_first t.first j t.before t.is_first t.is
+
+pub twice_at : IsTwice 16
+twice_at = record { item = 9; second = second_there; none_before = none_in_first }
 
 not_another : (k : ℕ) → (16 ≡ k → ⊥) → IsTwice k → ⊥
 not_another k other h = other (one_repeated three_headings three_headings_tokens (codes "x") one_second 16 k twice_at h)

@@ -127,7 +127,7 @@ header_words z (t ∷ u ∷ v ∷ ts) h =
     )
 
 -- what a refusal for a cause that the words place says of the bytes
-abbrev Tells : List ℕ → Result FileContent ReadFault → Type 0
+abbrev pub Tells : List ℕ → Result FileContent ReadFault → Type 0
 Tells z (Ok f) = ⊤
 Tells z (Err Mem) = ⊤
 Tells z (Err (LexFault f)) = IsLexed MOST_FILE_NAME_BYTES 0 1 z (Err f)
@@ -158,7 +158,7 @@ tells_uses uses.TooDeep p a u = tt
 tells_uses (uses.Large x) p a u = tt
 tells_uses (uses.Flawed x w q) p a u = tt
 
-tells : {z : List ℕ} {o : Result FileContent ReadFault} → IsRead z o → Tells z o
+pub tells : {z : List ℕ} {o : Result FileContent ReadFault} → IsRead z o → Tells z o
 tells (no_tokens l) = l
 tells (no_header {ts = ts} a n) = (ts, a, n)
 tells (no_item {ts = ts} p f) = (ts, p.tokens)

@@ -45,15 +45,15 @@ pub record HasTwo (P : ℕ → Type 0) : Type 0 where
   pub is_first : P first
   pub is_second : P second
 
-further : {P : ℕ → Type 0} (k n : ℕ) → From P (k + n) → From P k
+pub further : {P : ℕ → Type 0} (k n : ℕ) → From P (k + n) → From P k
 further k n h = let le = h.behind in record { number = h.number; behind = omega (arith, le); is = h.is }
 
 -- it holds here
-here_is : {P : ℕ → Type 0} (k : ℕ) → P k → From P k
+pub here_is : {P : ℕ → Type 0} (k : ℕ) → P k → From P k
 here_is k p = record { number = k; behind = omega arith; is = p }
 
 -- it holds here, and further on
-both : {P : ℕ → Type 0} (k n : ℕ) → P k → From P (k + suc n) → HasTwo P
+pub both : {P : ℕ → Type 0} (k n : ℕ) → P k → From P (k + suc n) → HasTwo P
 both k n p h = let le = h.behind in record { first = k; second = h.number; order = omega (arith, le); is_first = p; is_second = h.is }
 
 module _ (z : List ℕ) (ts : List Token) where
@@ -76,7 +76,7 @@ module _ (z : List ℕ) (ts : List Token) where
       within (suc j) [] f = absurd (no_word f)
       within (suc j) (t ∷ us) f = let lt = within j us f in omega (arith, lt)
 
-  statement_at : {g : Sig} {m : Limits} {s : Statement} {ws : List Word} → IsStatement g m s ws → (k : ℕ) (rest : List Word) → from k ≡ ws ++ rest
+  pub statement_at : {g : Sig} {m : Limits} {s : Statement} {ws : List Word} → IsStatement g m s ws → (k : ℕ) (rest : List Word) → from k ≡ ws ++ rest
       → At StatementOf (name_of s) k
   statement_at (is_restriction {x = x} f) k rest e = starts_at StatementOf x k _ _ e (own_name x)
   statement_at (is_lemma {x = x} a d f) k rest e = starts_at StatementOf x k _ _ e (own_name x)
@@ -192,3 +192,8 @@ module _ (z : List ℕ) (ts : List Token) where
   pub taken_statement : (r : List ℕ → Bool) {g : Sig} {y : List ℕ} {cut : List (List Placed)} {is : List Standing} → IsParted z ts y cut → AreItems g cut is → (x : List ℕ)
       → first_taken r (map name_of (statements is)) ≡ Some x → From (BeginsAt z ts StatementOf x) 3
   taken_statement r p q x f = statement_from r p.items q 3 x (behind_header z ts p.header) f
+
+  -- a name that is defined begins an item
+  pub defined_name : {g : Sig} {y : List ℕ} {cut : List (List Placed)} {is : List Standing} → IsParted z ts y cut → AreItems g cut is → (x : List ℕ)
+      → is_among (labels (bodies is)) x ≡ true → From (BeginsAt z ts Definition x) 3
+  defined_name p q x f = label_from p.items q 3 x (behind_header z ts p.header) f

@@ -18,3 +18,10 @@ pub mod OnePlace
 pub mod Nowhere
 pub mod PlacesByHand
 pub mod ItemPlace
+pub mod FirstOfTwo
+pub mod FirstDeclared
+pub mod StatedTwice
+pub mod UsedNames
+pub mod OtherFaults
+pub mod OtherNowhere
+pub mod OtherByHand

@@ -16,10 +16,10 @@ use Rattle.sap_where.proofs.Clashes.{one_clash}
 use Rattle.sap_where.proofs.Seconds.{one_second}
 use Rattle.sap_where.proofs.SecondParameter.{one_repeated}
 
-one_first : (P : ℕ → Type 0) (j k : ℕ) → IsFirst P j → IsFirst P k → j ≡ k
+pub one_first : (P : ℕ → Type 0) (j k : ℕ) → IsFirst P j → IsFirst P k → j ≡ k
 one_first P j k a b = same_number j k (λ lt. b.none_before j lt a.is) (λ lt. a.none_before k lt b.is)
 
-not_once : {A : Type 0} (P : ℕ → Type 0) (k : ℕ) → HoldsOnce P → IsSecond P k → A
+pub not_once : {A : Type 0} (P : ℕ → Type 0) (k : ℕ) → HoldsOnce P → IsSecond P k → A
 not_once P k h a = absurd (h a.first k a.before a.is_first a.is)
 
 pub one_taken : (z : List ℕ) (ts : List Token) (x : List ℕ) (j k : ℕ) → IsTakenAt z ts x j → IsTakenAt z ts x k → j ≡ k

@@ -46,14 +46,14 @@ not_before h =
     let e : 4 ≡ 0 = one_taken twice twice_tokens (codes "P") 4 0 again h in
     absurd (omega (arith, e))
 
-first_definition : (i : ℕ) → BeginsAt twice once_tokens Definition (codes "P") i → i ≡ 0
+pub first_definition : (i : ℕ) → BeginsAt twice once_tokens Definition (codes "P") i → i ≡ 0
 first_definition zero b = refl
 first_definition (suc zero) b = absurd (false_is b.is)
 first_definition (suc (suc zero)) b = absurd (false_is b.is)
 first_definition (suc (suc (suc zero))) b = absurd (false_is b.is)
 first_definition (suc (suc (suc (suc i)))) b = let lt = b.inside in absurd (omega (arith, lt))
 
-first_statement : (i : ℕ) → BeginsAt twice once_tokens Statement (codes "P") i → i ≡ 2
+pub first_statement : (i : ℕ) → BeginsAt twice once_tokens Statement (codes "P") i → i ≡ 2
 first_statement zero b = absurd (false_is b.is)
 first_statement (suc zero) b = absurd (false_is b.is)
 first_statement (suc (suc zero)) b = refl
@@ -69,7 +69,7 @@ alone = only_statement
       none_before = λ i lt b. let e = first_statement i b in absurd (omega (arith, lt, e));
     })
 
-none_defined : (i : ℕ) → BeginsAt stated stated_tokens Definition (codes "P") i → ⊥
+pub none_defined : (i : ℕ) → BeginsAt stated stated_tokens Definition (codes "P") i → ⊥
 none_defined zero b = false_is b.is
 none_defined (suc zero) b = false_is b.is
 none_defined (suc (suc zero)) b = false_is b.is

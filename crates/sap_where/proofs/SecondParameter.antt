@@ -137,9 +137,13 @@ repeated_is z ts x i k second none = record {
   none_before = λ j m lt s. none j lt s.first m s.before s.is_first s.is;
 }
 
+-- one definition is the first that has two
+pub one_item : (z : List ℕ) (ts : List Token) (x : List ℕ) (j k : ℕ) (a : IsRepeatedAt z ts x j) (b : IsRepeatedAt z ts x k) → a.item ≡ b.item
+one_item z ts x j k a b = same_number a.item b.item (λ lt. b.none_before a.item j lt a.second) (λ lt. a.none_before b.item k lt b.second)
+
 -- one token is the second, in the first definition that has two
 module _ (z : List ℕ) (ts : List Token) (x : List ℕ) (one_second : (P : ℕ → Type 0) (j k : ℕ) → IsSecond P j → IsSecond P k → j ≡ k) where
   pub one_repeated : (j k : ℕ) → IsRepeatedAt z ts x j → IsRepeatedAt z ts x k → j ≡ k
   one_repeated j k a b =
-      let same : a.item ≡ b.item = same_number a.item b.item (λ lt. b.none_before a.item j lt a.second) (λ lt. a.none_before b.item k lt b.second) in
+      let same = one_item z ts x j k a b in
       one_second (IsParameter z ts x b.item) j k (subst (λ (i : ℕ). IsSecond (IsParameter z ts x i) j) same a.second) b.second

@@ -23,7 +23,7 @@ module _ (P : ℕ → Type 0) (decide : (k : ℕ) → P k ⊎ (P k → ⊥)) whe
       by (inr none) (inr isnt) =
           inr (λ i lt p. ⊎_elim (λ same. isnt (subst P same p)) (λ o. ⊎_elim (λ l. none i l p) (λ l. absurd (omega (arith, lt, l))) o) (cases_order i n))
 
-  first_there : (k : ℕ) → P k → (j : ℕ) × IsFirst P j
+  pub first_there : (k : ℕ) → P k → (j : ℕ) × IsFirst P j
   first_there k p = ⊎_elim (λ f. (f.0, f.2)) (λ none. absurd (none k (omega arith) p)) (search (suc k))
 
 -- behind a number
@@ -64,7 +64,7 @@ module _ (P : ℕ → Type 0) (decide : (k : ℕ) → P k ⊎ (P k → ⊥)) whe
           ⊎_elim (λ same. omega (arith, same, lt)) (λ o. ⊎_elim (λ l. omega (arith, l, lt)) (λ l. absurd (f.none_before h.first l h.is_first)) o) (cases_order j h.first)
 
   -- there is a second one, or it holds of one at most
-  second_or_once : (n : ℕ) → ((i : ℕ) → P i → i < n) → ((k : ℕ) × IsSecond P k) ⊎ HoldsOnce P
+  pub second_or_once : (n : ℕ) → ((i : ℕ) → P i → i < n) → ((k : ℕ) × IsSecond P k) ⊎ HoldsOnce P
   second_or_once n within = by (search P decide n)
     where
       by : ((k : ℕ) × (k < n) × IsFirst P k) ⊎ ((i : ℕ) → i < n → P i → ⊥) → ((k : ℕ) × IsSecond P k) ⊎ HoldsOnce P
@@ -78,7 +78,7 @@ module _ (P : ℕ → Type 0) (decide : (k : ℕ) → P k ⊎ (P k → ⊥)) whe
 
 module _ (z : List ℕ) (ts : List Token) (b : Beginning) (x : List ℕ) where
   -- whether an item of a kind begins somewhere can be decided
-  decided : (k : ℕ) → BeginsAt z ts b x k ⊎ (BeginsAt z ts b x k → ⊥)
+  pub decided : (k : ℕ) → BeginsAt z ts b x k ⊎ (BeginsAt z ts b x k → ⊥)
   decided k = by (cases_order k (length ts)) (cases_Bool (begins b x (words_of z (drop k ts))))
     where
       by : (k ≡ length ts) ⊎ ((k < length ts) ⊎ (length ts < k)) → (begins b x (words_of z (drop k ts)) ≡ true) ⊎ (begins b x (words_of z (drop k ts)) ≡ false)

@@ -5,6 +5,7 @@ use Rattle.sap_text.specs.declared.token.Token.{Token}
 use Rattle.sap_grammar.specs.Words.{Word, mark, name}
 use Rattle.sap_stretches.specs.StretchExamples.{word}
 use Rattle.sap_where.specs.FileDeclarations.{IsClashAt}
+use Rattle.sap_where.specs.OtherPlaces.{IsDeclaredFirstAt, IsRepeatedFirstAt}
 use Rattle.sap_where.specs.Where.{IsRepeatedAt}
 
 -- a header with `end` where `begin` is wanted, and one without a name
@@ -74,3 +75,32 @@ few_declared_tokens =
 -- token number k of these is where this name is told to be declared otherwise
 abbrev pub IsClash : List ℕ → ℕ → Type 0
 IsClash x k = IsClashAt many_declared many_declared_tokens x k
+
+-- token number k of the three definitions is where x stands first in the one in which it stands twice
+abbrev pub IsTwiceFirst : ℕ → Type 0
+IsTwiceFirst k = IsRepeatedFirstAt three_headings three_headings_tokens (codes "x") k
+
+-- token number k of the declarations without the builtins is where f is declared first, before it is otherwise
+abbrev pub IsFirstF : ℕ → Type 0
+IsFirstF k = IsDeclaredFirstAt many_declared few_declared_tokens (codes "f") k
+
+-- hashing, which has h of one, and then h of two; and a symbol of pairs, which no word declares otherwise before
+abbrev pub after_builtin : List ℕ
+after_builtin = codes "builtins : hashing functions : h / 2 end"
+
+abbrev pub after_builtin_tokens : List Token
+after_builtin_tokens =
+    word 0 8 ∷ sign 9 10 ∷ word 11 18 ∷ word 19 28 ∷ sign 29 30 ∷ word 31 32 ∷ sign 33 34 ∷ digit 35 36 ∷ word 37 40 ∷ []
+
+abbrev pub of_pairs : List ℕ
+of_pairs = codes "functions : fst / 3 end"
+
+abbrev pub of_pairs_tokens : List Token
+of_pairs_tokens = word 0 9 ∷ sign 10 11 ∷ word 12 15 ∷ sign 16 17 ∷ digit 18 19 ∷ word 20 23 ∷ []
+
+-- two processes
+abbrev pub two_processes : List ℕ
+two_processes = codes "process : 0 process : 0"
+
+abbrev pub two_processes_tokens : List Token
+two_processes_tokens = word 0 7 ∷ sign 8 9 ∷ digit 10 11 ∷ word 12 19 ∷ sign 20 21 ∷ digit 22 23 ∷ []

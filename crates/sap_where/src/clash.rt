@@ -20,14 +20,14 @@ use std::alloc::Global;
 
 // What is known before a word: whether it stands in an item of builtins, or of functions, and whether behind a colon or a comma.
 #[derive(Clone, Copy)]
-struct Before {
-    builtins: bool,
-    functions: bool,
-    next: bool,
+pub(crate) struct Before {
+    pub(crate) builtins: bool,
+    pub(crate) functions: bool,
+    pub(crate) next: bool,
 }
 
 // What is known behind this word, by what is before it.
-fn go_on(bytes: &[u8], tokens: &[Token], k: usize, before: Before) -> Before
+pub(crate) fn go_on(bytes: &[u8], tokens: &[Token], k: usize, before: Before) -> Before
     requires builtins { before.builtins ≡ in_item bytes.now tokens.now (codes "builtins") k }
     requires functions { before.functions ≡ in_item bytes.now tokens.now (codes "functions") k }
     ensures builtins { result.builtins ≡ in_item bytes.now tokens.now (codes "builtins") (k + 1) }
@@ -125,7 +125,7 @@ fn at_name(bytes: &[u8], tokens: &[Token], clash: &Clash, name: &[u8]) -> Option
 }
 
 // The same of the first declaration that clashes.
-fn clash_at(
+pub(crate) fn clash_at(
     alloc: Global,
     bytes: &[u8],
     tokens: &[Token],

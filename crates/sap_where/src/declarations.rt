@@ -5,6 +5,9 @@ ghost use Rattle.sap_grammar.specs.Declarations.{of_builtin, of_symbol};
 ghost use Rattle.sap_grammar.specs.ItemReading.{arity_at, arity_of_digits, builtin_at, declaration_at, is_joined, is_private, symbol_at, with_privacy};
 ghost use Rattle.sap_grammar.specs.Signatures.{clash_with, with_declaration};
 ghost use Rattle.sap_where.specs.FileDeclarations.{alone};
+ghost use Rattle.sap_where.specs.OtherPlaces.{declares};
+ghost use Rattle.std.specs.Option.{option_map_or};
+ghost use Rattle.std.specs.Str.{bytes_eq};
 ghost use Rattle.sap_where.specs.code.Declaring.{clash_of, with_given};
 
 use sap_grammar::{beyond, is_lower, name_at, names, number_at, starts};
@@ -170,5 +173,59 @@ pub(crate) fn add_symbol_at(
     match symbol_at(alloc, bytes, tokens)? {
         Some(symbol) => add_symbol(signature, symbol),
         None => Ok(None),
+    }
+}
+
+fn is(symbol: &[u8], name: &[u8]) -> bool
+    ensures { result ≡ bytes_eq symbol.now name.now }
+{
+    symbol == name
+}
+
+// Whether the builtin has a symbol of this name.
+fn has_symbol(builtin: Builtin, name: &[u8]) -> bool
+    ensures { result ≡ declares name.now (of_builtin builtin) }
+{
+    match builtin {
+        Builtin::Hashing => is(b"h", name),
+        Builtin::Symmetric => is(b"senc", name) || is(b"sdec", name),
+        Builtin::Asymmetric => is(b"aenc", name) || is(b"adec", name) || is(b"pk", name),
+        Builtin::Signing => {
+            is(b"sign", name) || is(b"verify", name) || is(b"pk", name) || is(b"true", name)
+        }
+        Builtin::RevealingSigning => {
+            is(b"revealSign", name)
+                || is(b"revealVerify", name)
+                || is(b"getMessage", name)
+                || is(b"pk", name)
+                || is(b"true", name)
+        }
+    }
+}
+
+/// Whether a builtin whose name begins here has a symbol of this name.
+pub(crate) fn builtin_declares(bytes: &[u8], tokens: &[Token], name: &[u8]) -> bool
+    ensures { result ≡ option_map_or (declares name.now)
+        (alone (declaration_at true (words_of bytes.now tokens.now))) false }
+{
+    match builtin_at(bytes, tokens) {
+        Some(builtin) => has_symbol(builtin, name),
+        None => false,
+    }
+}
+
+/// Whether a symbol that is declared here has this name.
+pub(crate) fn symbol_declares(
+    alloc: Global,
+    bytes: &[u8],
+    tokens: &[Token],
+    name: &[u8],
+) -> Result<bool, Mem>
+    ensures { IfOk result (λ b. b ≡ option_map_or (declares name.now)
+        (alone (declaration_at false (words_of bytes.now tokens.now))) false) }
+{
+    match symbol_at(alloc, bytes, tokens)? {
+        Some(symbol) => Ok(is(symbol.name.as_bytes(), name)),
+        None => Ok(false),
     }
 }

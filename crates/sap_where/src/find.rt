@@ -82,3 +82,21 @@ pub(crate) fn second(
         None => None,
     }
 }
+
+// The number of the first one, where there are two.
+pub(crate) fn first_of_two(
+    bytes: &[u8],
+    tokens: &[Token],
+    beginning: Beginning,
+    name: &[u8],
+) -> Option<usize>
+    ensures { MatchOption result
+        (HoldsOnce (BeginsAt bytes.now tokens.now beginning name.now))
+        (λ j. (k : ℕ) × IsSecond (BeginsAt bytes.now tokens.now beginning name.now) k
+        × IsFirst (BeginsAt bytes.now tokens.now beginning name.now) j) }
+{
+    match second(bytes, tokens, beginning, name) {
+        Some(_) => first(bytes, tokens, beginning, name),
+        None => None,
+    }
+}

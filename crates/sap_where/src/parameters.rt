@@ -3,7 +3,8 @@ ghost use Rattle.std.specs.Prelude.{◌≡◌, ◌≤◌, ◌<◌, ℕ, None, le
 ghost use Rattle.sap_read.specs.FileTokens.{HasTokens};
 ghost use Rattle.sap_read.specs.declared.fault.ReadFault.TheVariants.{Parameters};
 ghost use Rattle.sap_where.specs.Parameters.{CanBeParameter, IsParameter, goes_on, opens_parameters};
-ghost use Rattle.sap_where.specs.Where.{HoldsOnce, IsRepeatedAt, IsSecond, IsWhere};
+ghost use Rattle.sap_where.specs.Where.{HoldsOnce, IsFirst, IsRepeatedAt, IsSecond, IsWhere};
+ghost use Rattle.sap_where.specs.OtherPlaces.{IsOtherWhere, IsRepeatedFirstAt};
 ghost use Rattle.sap_stretches.specs.declared.stretch.Stretch.{Stretch};
 
 use crate::items::has_name;
@@ -98,6 +99,50 @@ pub(crate) fn parameter_place(bytes: &[u8], tokens: &[Token], name: &Name) -> Op
 {
     match repeated(bytes, tokens, name.as_bytes()) {
         Some(k) => Some(stretch_at(tokens, k)),
+        None => None,
+    }
+}
+
+// The first parameter of this name in the definition that begins with token i, where it has two.
+fn first_of_two(bytes: &[u8], tokens: &[Token], name: &[u8], i: usize) -> Option<usize>
+    requires { i < length tokens.now }
+    ensures { MatchOption result (HoldsOnce (IsParameter bytes.now tokens.now name.now i))
+        (λ j. (k : ℕ) × IsSecond (IsParameter bytes.now tokens.now name.now i) k
+        × IsFirst (IsParameter bytes.now tokens.now name.now i) j) }
+{
+    match second(bytes, tokens, name, i) {
+        Some(_) => next(bytes, tokens, name, i, i + 3),
+        None => None,
+    }
+}
+
+// The first of two parameters of this name, in the first definition that has it twice.
+fn repeated_first(bytes: &[u8], tokens: &[Token], name: &[u8]) -> Option<usize>
+    ensures { MatchOption result
+        ((i : ℕ) → HoldsOnce (IsParameter bytes.now tokens.now name.now i))
+        (λ j. IsRepeatedFirstAt bytes.now tokens.now name.now j) }
+{
+    let mut i = 0;
+    while i < tokens.len() {
+        if let Some(j) = first_of_two(bytes, tokens, name, i) {
+            return Some(j);
+        }
+        i += 1;
+    }
+    None
+}
+
+/// Where this name stands first among the parameters of that definition.
+pub(crate) fn first_parameter(bytes: &[u8], tokens: &[Token], name: &Name) -> Option<Stretch>
+    requires { HasTokens bytes.now tokens.now }
+    ensures place { IfSome result (λ s. IsOtherWhere bytes.now (Parameters name.now) s) }
+    ensures inside { IfSome result (λ s. s.from ≤ length bytes.now) }
+    ensures none { result ≡ None → (s : Stretch) → IsOtherWhere bytes.now (Parameters name.now) s → ⊥ }
+    ensures once { result ≡ None → (i : ℕ)
+        → HoldsOnce (IsParameter bytes.now tokens.now name.now i) }
+{
+    match repeated_first(bytes, tokens, name.as_bytes()) {
+        Some(j) => Some(stretch_at(tokens, j)),
         None => None,
     }
 }

@@ -10,4 +10,5 @@ push_advice-requires c = syntax_reached c.args.bytes.now c.args.tokens.now c.arg
 
 pub returns : goal.returns
 returns c =
-    explanation_is c.args.bytes.now c.args.fault.now _ _ _ _ _ c.in_ok-push_place_told.ensures c.in_ok-push_expected_told.ensures c.push_advice.ensures
+    explanation_is c.args.bytes.now c.args.fault.now _ _ _ _ _ _ c.in_ok-push_place_told.ensures c.in_ok-push_other_told.ensures c.in_ok-push_expected_told.ensures
+    c.push_advice.ensures

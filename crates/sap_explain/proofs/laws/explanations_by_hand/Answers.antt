@@ -17,6 +17,7 @@ use Rattle.sap_explain.specs.Advice.{advice}
 use Rattle.sap_explain.specs.Cures.{IsCure, at_byte, at_word, uncured}
 use Rattle.sap_explain.specs.Explained.{AreUseTexts, AreUsesTold, IsPlaceTold, IsUseText, a_use, no_use, nowhere, somewhere}
 use Rattle.sap_explain.specs.ExpectedTold.{no_such, none_open, one_open}
+use Rattle.sap_explain.specs.OtherTold.{IsOtherPlaceOf, no_other, other_by_words}
 use Rattle.sap_explain.specs.ExplainedExamples.{first_use, first_word, four_uses, four_words, nine_words, one_mark, second_use, shown_byte, used_word, uses}
 use Rattle.sap_explain.proofs.Telling.{OnePosition, one_uses_text}
 use Rattle.sap_explain.proofs.laws.explanations_by_hand.Goals as goal
@@ -95,6 +96,13 @@ is_told = (by_words at_byte_0 refl)
 place_told : IsPlaceTold one_mark (Lex (BadByte 0)) (shown_byte ++ [])
 place_told = somewhere is_told byte_text (record { texts = []; are = no_use; text = refl })
 
+-- it has no other place, and no process has none
+no_other_byte : (s : Stretch) → IsOtherPlaceOf one_mark (Lex (BadByte 0)) s → ⊥
+no_other_byte s (other_by_words w) = elim w [ ]
+
+no_other_process : (s : Stretch) → IsOtherPlaceOf [] NoProcess s → ⊥
+no_other_process s (other_by_words w) = elim w [ ]
+
 -- no row says anything of this byte, and of no process none does
 some_same : {a b : ℕ} → Some a ≡ Some b → a ≡ b
 some_same e = cc
@@ -112,6 +120,8 @@ pub returns-clause-somewhere : goal.returns-clause-somewhere
 returns-clause-somewhere c = record {
   place = shown_byte ++ [];
   is_place = place_told;
+  other = [];
+  is_other = no_other no_other_byte;
   wanted = [];
   is_wanted = no_such refl;
   change = advice (Lex (BadByte 0));
@@ -120,7 +130,7 @@ returns-clause-somewhere c = record {
 }
 
 pub returns-clause-nowhere : goal.returns-clause-nowhere
-returns-clause-nowhere c = record { place = []; is_place = nowhere no_place; wanted = []; is_wanted = no_such refl; change = advice NoProcess; is_change = uncured no_cure_nowhere; text = refl }
+returns-clause-nowhere c = record { place = []; is_place = nowhere no_place; other = []; is_other = no_other no_other_process; wanted = []; is_wanted = no_such refl; change = advice NoProcess; is_change = uncured no_cure_nowhere; text = refl }
 
 -- the name on the first line, and what is told of each use
 first : IsPosition uses 0 (record { line = 1; column = 1 })

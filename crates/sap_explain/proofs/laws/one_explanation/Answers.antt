@@ -13,4 +13,4 @@ pub returns : goal.returns
 returns c z e t u a b =
     one_explanation_is (λ x ts us f g. ok_same ts us (c.one_answer.ensures MOST_FILE_NAME_BYTES x (Ok ts) (Ok us) f g))
     (λ x ts are. c.table_is_the_grammar.ensures.letters x ts (MOST_FILE_NAME_BYTES, are)) c.one_expected.ensures.word c.one_expected.ensures.one
-    c.one_place_text.ensures.positions z c.one_place.ensures c.one_place_text.ensures.texts e t u a b
+    c.one_place_text.ensures.positions z c.one_place.ensures (λ s t e. c.one_other_place.ensures z e s t) c.one_place_text.ensures.texts e t u a b
