@@ -11,6 +11,9 @@
 #   chain     one thread, whose place has one digit more at each line, up to the levels that a process may have: its text grows by more
 #   wide      threads that make thirty names each before they do that, so that much is in scope at each line
 #
+#   reasons   a conjunction that holds and costs nearly 10,000,000 at the last run, gone through once for its verdict and once for its reason;
+#             its cost is the square of the lines, and so instructions grow by up to 4
+#
 # Where terms are large, `judge` looks at each by its number and `tell` writes it out, so that no ratio is wanted: 5,000 lines are to be
 # told in less than a second.
 #
@@ -115,6 +118,14 @@ wide() {
     done
 }
 
+reasons() {
+    echo 'theory B begin process: ! event A() lemma both: exists-trace "(All #i #j. A()@i & A()@j ==> #i < #j | #j < #i | #i = #j) & (Ex #i. A()@i)" end' > "$work/file"
+    for count in 625 1250 2500; do
+        awk -v n="$((count / 2))" 'BEGIN { print "process-run"; for (k = 1; k <= n; k++) printf "rep 0\nevent %d\n", k }' > "$work/run"
+        measured "$count"
+    done
+}
+
 chain() {
     for count in 70 140 280; do
         awk -v n="$count" 'BEGIN { printf "theory B begin process: "; for (k = 0; k < n; k++) printf "event A(); "; print "0 end" }' > "$work/file"
@@ -123,7 +134,7 @@ chain() {
     done
 }
 
-for name in ${*:-sessions stored chain wide known inputs outputs rules}; do
+for name in ${*:-sessions stored chain wide reasons known inputs outputs rules}; do
     family "$name" 2
     "$name"
 done

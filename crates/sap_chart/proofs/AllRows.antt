@@ -12,7 +12,7 @@ use Rattle.sap_terms.specs.Signature.{Sig}
 use Rattle.sap_terms.specs.Trace.{Trace}
 use Rattle.sap_terms.specs.Tree.{Tree}
 use Rattle.sap_tell.specs.Escaped.{escaped, is_no_mark}
-use Rattle.sap_players.specs.Casts.{Cast}
+use Rattle.sap_tell.specs.Scenes.{Scene}
 use Rattle.sap_tell.specs.Stages.{Stage, stage_of}
 use Rattle.sap_tell.specs.ToldText.{outcomes_text}
 use Rattle.sap_chart.specs.Chart as drawn
@@ -27,16 +27,16 @@ row_or_none : (number : ℕ) (stage : Stage) (entry : Option ℕ) (told label : 
 row_or_none number stage entry told label None = refl
 row_or_none number stage entry told label (Some f) = refl
 
-counted : {g : Sig} {p : Proc} {cast : Cast} {lines : List PStep} {c : Config} {es : List Tree} {tr : Trace} {marks : List Mark} {ds : List Draw} {rows : List Row}
-    → IsDrawnRun g p cast lines c es tr marks ds rows → length rows ≡ count_by has_figure lines
+counted : {g : Sig} {p : Proc} {scene : Scene} {lines : List PStep} {c : Config} {es : List Tree} {tr : Trace} {marks : List Mark} {ds : List Draw} {rows : List Row}
+    → IsDrawnRun g p scene lines c es tr marks ds rows → length rows ≡ count_by has_figure lines
 counted drawn.starts = refl
-counted {cast = cast} (drawn.further {lines = lines} {es = es} {fs = fs} {rows = rows} step inner label told h l t) =
-    let stage = stage_of cast lines step in
+counted {scene = scene} (drawn.further {lines = lines} {es = es} {fs = fs} {rows = rows} step inner label told h l t) =
+    let stage = stage_of scene lines step in
     let beside = t.doing ++ outcomes_text t.outcomes in
     length-append rows (rows_with (length lines + 1) stage (new_entry es fs) told beside (figure_of step))
     ∙ (λ i. counted h i + row_or_none (length lines + 1) stage (new_entry es fs) told beside (figure_of step) i)
     ∙ sym (sum_by-append (λ s. cond (has_figure s) 1 0) lines (step ∷ []))
 
 pub all_rows : ((z : List ℕ) → list_all is_no_mark (escaped z) ≡ true) → EachLineWithAFigureHasARow
-all_rows marks g p cast lines tr text x =
+all_rows marks g p scene lines tr text x =
     ap (λ t. length (row_titles t)) x.written ∙ ap length (chart_read marks x.rows) ∙ length-map (told_lines x.rows) escaped ∙ length-map x.rows (λ (r : Row). r.told) ∙ counted x.drawn

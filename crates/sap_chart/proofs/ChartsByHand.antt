@@ -17,7 +17,7 @@ use Rattle.sap_terms.specs.Trace.{Trace}
 use Rattle.sap_terms.specs.Tree.{Tree, fresh, public}
 use Rattle.sap_tell.specs.Escaped.{escaped, escaped_byte, is_no_mark}
 use Rattle.sap_tell.specs.Told as told
-use Rattle.sap_players.specs.Casts.{Cast}
+use Rattle.sap_tell.specs.Scenes.{Scene}
 use Rattle.sap_tell.specs.Stages.{stage_of}
 use Rattle.sap_tell.specs.ToldExamples.{fresh_n, no_roles}
 use Rattle.sap_called.specs.Names.{Draw, draw}
@@ -32,8 +32,8 @@ use Rattle.sap_chart.specs.declared.figure.Figure.TheVariants as figure
 use Rattle.sap_chart.proofs.AllRows.{all_rows}
 
 -- the run with no line has no row
-no_rows : {g : Sig} {p : Proc} {cast : Cast} {lines : List PStep} {c : Config} {es : List Tree} {tr : Trace} {marks : List Mark} {ds : List Draw} {rows : List Row}
-    → IsDrawnRun g p cast lines c es tr marks ds rows → lines ≡ [] → rows ≡ []
+no_rows : {g : Sig} {p : Proc} {scene : Scene} {lines : List PStep} {c : Config} {es : List Tree} {tr : Trace} {marks : List Mark} {ds : List Draw} {rows : List Row}
+    → IsDrawnRun g p scene lines c es tr marks ds rows → lines ≡ [] → rows ≡ []
 no_rows drawn.starts e = refl
 no_rows (drawn.further {lines = before} step inner label told h l t) e = let n : length (before ++ step ∷ []) ≡ length {A = PStep} [] = ap length e in absurd (omega (arith, length-append before (step ∷ [])))
 
@@ -42,8 +42,8 @@ begins_so : chart_text [] ≡ empty_chart
 unfolding digits escaped_byte
 begins_so = refl
 
-pub not_nothing : (g : Sig) (p : Proc) (cast : Cast) (tr : Trace) → ¬ IsChart g p cast [] tr []
-not_nothing g p cast tr h =
+pub not_nothing : (g : Sig) (p : Proc) (scene : Scene) (tr : Trace) → ¬ IsChart g p scene [] tr []
+not_nothing g p scene tr h =
     let e : [] ≡ empty_chart = h.written ∙ ap chart_text (no_rows h.drawn refl) ∙ begins_so in
     absurd (true≢false (ap (λ (t : List ℕ). bytes_eq [] t) e))
 
@@ -87,7 +87,7 @@ ended = becomes named 0 None
 abbrev first_row : Row
 first_row = record {
   number = 1;
-  stage = stage_of no_roles [] (line.New 0 7);
+  stage = stage_of (by_roles no_roles) [] (line.New 0 7);
   figure = figure.Does 0;
   entry = None;
   told = codes "1. thread 0 at the root: new ~n -- ~n = ~n.1";
@@ -97,7 +97,7 @@ first_row = record {
 abbrev last_row : Row
 last_row = record {
   number = 3;
-  stage = stage_of no_roles (line.New 0 7 ∷ line.Nil 0 ∷ []) (line.Public (codes "a"));
+  stage = stage_of (by_roles no_roles) (line.New 0 7 ∷ line.Nil 0 ∷ []) (line.Public (codes "a"));
   figure = figure.Makes;
   entry = Some 0;
   told = codes "3. adversary: 'a' -- knows 0: 'a'";

@@ -7,7 +7,7 @@ use Rattle.sap_runs.specs.declared.process_step.PStep.{PStep}
 use Rattle.sap_terms.specs.Trace.{shown}
 use Rattle.sap_terms.specs.declared.fact.Fact.{Fact}
 use Rattle.sap_tell.specs.Stages.{Stage}
-use Rattle.sap_tell.specs.ToldText.{actor_text}
+use Rattle.sap_tell.specs.ToldText.{head_told}
 use Rattle.sap_teller.specs.Telling.{IsToldApart}
 use Rattle.sap_teller.specs.declared.telling.Along.{Along}
 use Rattle.sap_chart.specs.ChartText.{rows_text, with_lifeline}
@@ -28,7 +28,7 @@ entry_is y z known after p q =
 
 -- lifelines come, the line is told, and its row comes
 pub next_drawn : (s : Stage) (who : List ℕ) (y z : Running) (a b : Along) (d m e : Drawing) (step : PStep) (label : List Fact) (before told start apart title words : List ℕ) (o : Option Figure) (entry : Option ℕ)
-    → who ≡ actor_text s step → before ≡ [] → start ≡ [] → title ≡ told → words ≡ apart → o ≡ figure_of step → entry ≡ new_entry (terms_of y.known) (terms_of z.known)
+    → who ≡ head_told s step → before ≡ [] → start ≡ [] → title ≡ told → words ≡ apart → o ≡ figure_of step → entry ≡ new_entry (terms_of y.known) (terms_of z.known)
     → IsToldApart y z a b who before told start apart step label
     → m.lifelines.entries ≡ fold with_lifeline d.lifelines.entries (threads_in s o) → m.body ≡ d.body → m.rows ≡ d.rows → m.trace ≡ d.trace
     → e.lifelines.entries ≡ m.lifelines.entries → e.body ≡ m.body ++ rows_text m.lifelines.entries m.rows (rows_with (a.lines + 1) nobody entry title words o)
@@ -38,7 +38,7 @@ next_drawn s who y z a b d m e step label before told start apart title words o 
   label = label;
   told = told;
   apart = apart;
-  done = subst (λ (w : List ℕ). IsToldApart y z a b (actor_text s step) [] told w apart step label) q (subst (λ (w : List ℕ). IsToldApart y z a b (actor_text s step) w told start apart step label) p (subst (λ (w : List ℕ). IsToldApart y z a b w before told start apart step label) acts done));
+  done = subst (λ (w : List ℕ). IsToldApart y z a b (head_told s step) [] told w apart step label) q (subst (λ (w : List ℕ). IsToldApart y z a b (head_told s step) w told start apart step label) p (subst (λ (w : List ℕ). IsToldApart y z a b w before told start apart step label) acts done));
   lifelines = el ∙ ml ∙ ap (λ x. fold with_lifeline d.lifelines.entries (threads_in s x)) t;
   body = eb ∙ (λ i. mb i ++ rows_text (sym el i) (mr i) (rows_with (a.lines + 1) nobody (n i) (r i) (v i) (t i)));
   rows = er ∙ (λ i. mr i + length (rows_with (a.lines + 1) nobody (n i) (r i) (v i) (t i)));

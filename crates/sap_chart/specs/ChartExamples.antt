@@ -42,7 +42,7 @@ in_row = record {
 abbrev pub later_row : Row
 later_row = record {
   number = 5;
-  stage = record { cast = no_roles; played = []; paths = paths_after first_paths (line.Event 2) };
+  stage = record { cast = no_roles; line_at = no_lines; step = None; played = []; paths = paths_after first_paths (line.Event 2) };
   figure = figure.Locks 2;
   entry = None;
   told = codes "5. thread 2 at 1111: lock 'db' -- 'db' is held";
@@ -73,7 +73,7 @@ long_row = record {
 abbrev pub maker_row : Row
 maker_row = record {
   number = 4;
-  stage = record { cast = two_roles; played = (2, 1) ∷ []; paths = first_paths };
+  stage = record { cast = two_roles; line_at = no_lines; step = None; played = (2, 1) ∷ []; paths = first_paths };
   figure = figure.Shows 2;
   entry = None;
   told = codes "4. Maker #1 (thread 2) at 111: event Made(pk(~sk.1)) -- shows Made(pk(~sk.1))";

@@ -3,7 +3,7 @@ use Rattle.std.specs.Prelude.{◌≡◌, ℕ, Bool, nat_eq, List, [], length, ma
 use Rattle.std.specs.List.{list_any}
 use Rattle.sap_lines.specs.Lines.{IsProcessLine}
 use Rattle.sap_lines.specs.Runs.{IsLegalProcessRun}
-use Rattle.sap_players.specs.Casts.{Cast}
+use Rattle.sap_tell.specs.Scenes.{Scene}
 use Rattle.sap_process.specs.Configuration.{Config}
 use Rattle.sap_process.specs.Proc.{Proc}
 use Rattle.sap_process.specs.Ready.{IsReady}
@@ -23,20 +23,20 @@ use Rattle.sap_chart.specs.Titles.{StandForEach, row_titles}
 -- whatever roles the process has, what has a chart is a legal run of the process within the limit, which shows this
 abbrev pub DrawnRunsAreLegal : Type 0
 DrawnRunsAreLegal =
-    (g : Sig) (p : Proc) (cast : Cast) (lines : List PStep) (tr : Trace) (text : List ℕ) → IsChart g p cast lines tr text
+    (g : Sig) (p : Proc) (scene : Scene) (lines : List PStep) (tr : Trace) (text : List ℕ) → IsChart g p scene lines tr text
     → (c : Config) × (es : List Tree) × (marks : List Mark) × IsLegalProcessRun g HasFewNodes p lines c es tr marks
 
 -- each legal run of a process within the limit has a chart
 abbrev pub LegalRunsAreDrawn : Type 0
 LegalRunsAreDrawn =
-    (g : Sig) (p : Proc) (cast : Cast) (lines : List PStep) (c : Config) (es : List Tree) (tr : Trace) (marks : List Mark)
-    → IsLegalProcessRun g HasFewNodes p lines c es tr marks → (text : List ℕ) × IsChart g p cast lines tr text
+    (g : Sig) (p : Proc) (scene : Scene) (lines : List PStep) (c : Config) (es : List Tree) (tr : Trace) (marks : List Mark)
+    → IsLegalProcessRun g HasFewNodes p lines c es tr marks → (text : List ℕ) × IsChart g p scene lines tr text
 
 -- lines of a ready process that has these roles have one chart, whatever they are said to show
 abbrev pub RunsAreDrawnByOneChart : Type 0
 RunsAreDrawnByOneChart =
-    (g : Sig) (p : Proc) (cast : Cast) (lines : List PStep) (tr ur : Trace) (text other : List ℕ) → HoldsBuiltins g
-    → IsReady g p → IsChart g p cast lines tr text → IsChart g p cast lines ur other → text ≡ other
+    (g : Sig) (p : Proc) (scene : Scene) (lines : List PStep) (tr ur : Trace) (text other : List ℕ) → HoldsBuiltins g
+    → IsReady g p → IsChart g p scene lines tr text → IsChart g p scene lines ur other → text ≡ other
 
 -- a possible line without a row does nothing inside, shows no fact and adds no entry
 abbrev pub LinesWithoutRowsAreBare : Type 0
@@ -57,7 +57,7 @@ told_lines rows = map (λ (r : Row). r.told) rows
 -- a chart has as many rows' titles as the run has lines with a figure
 abbrev pub EachLineWithAFigureHasARow : Type 0
 EachLineWithAFigureHasARow =
-    (g : Sig) (p : Proc) (cast : Cast) (lines : List PStep) (tr : Trace) (text : List ℕ) → IsChart g p cast lines tr text
+    (g : Sig) (p : Proc) (scene : Scene) (lines : List PStep) (tr : Trace) (text : List ℕ) → IsChart g p scene lines tr text
     → length (row_titles text) ≡ count_by has_figure lines
 
 -- each thread that is in the figure of a row has one lifeline, and no other thread has one

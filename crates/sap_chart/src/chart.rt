@@ -1,8 +1,8 @@
 //! Charts, drawn row by row.
-ghost use Rattle.std.specs.Prelude.{◌≡◌, ◌+◌, ◌++◌, [], IfOk, OnOk, codes, fold, length};
-ghost use Rattle.sap_roles.specs.Casts.{IsScript, role_count};
+ghost use Rattle.std.specs.Prelude.{ℕ, ◌≡◌, ◌+◌, ◌++◌, [], IfOk, OnOk, codes, fold, length};
+ghost use Rattle.sap_roles.specs.Casts.{role_count};
 ghost use Rattle.sap_tell.specs.Stages.{Stage};
-ghost use Rattle.sap_teller.specs.Telling.{IsOnStage};
+ghost use Rattle.sap_teller.specs.Settings.{IsOnStage, IsSetting};
 ghost use Rattle.sap_terms.specs.Trace.{shown};
 ghost use Rattle.sap_chart.specs.ChartText.{head_text, heads_text, rows_text, start_text, with_lifeline};
 ghost use Rattle.sap_chart.specs.Rows.{rows_with};
@@ -14,8 +14,8 @@ use crate::lifelines::{add_threads, push_head, push_heads};
 use crate::rows::push_row;
 use indexmap::IndexMap;
 use sap_players::RoleNumbers;
-use sap_roles::Script;
 use sap_tell::ThreadPaths;
+use sap_teller::Setting;
 use sap_terms::{FactList, Mem, Trace};
 use sap_text::Text;
 use std::alloc::Global;
@@ -139,21 +139,21 @@ impl Drawing {
     pub(crate) fn add_threads(
         &mut self,
         alloc: Global,
-        script: &Script,
+        setting: &Setting<'_>,
         numbers: &RoleNumbers,
         paths: &ThreadPaths,
         figure: Option<Figure>,
     ) -> Result<(), Mem>
-        requires script { IsScript script.now }
-        requires count { length numbers.now ≡ role_count script.now }
-        ensures lifelines { (s : Stage) → IsOnStage script.now numbers.now paths.now s
+        requires setting { IsSetting setting.now }
+        requires count { length numbers.now ≡ role_count setting.now.script.now }
+        ensures lifelines { (count : ℕ) (s : Stage) → IsOnStage setting.now numbers.now paths.now count s
             → OnOk result (self.new.lifelines.entries
             ≡ fold with_lifeline self.old.lifelines.entries (threads_in s figure)) }
         ensures body { OnOk result (self.new.body ≡ self.old.body) }
         ensures rows { OnOk result (self.new.rows ≡ self.old.rows) }
         ensures trace { OnOk result (self.new.trace ≡ self.old.trace) }
     {
-        add_threads(alloc, &mut self.lifelines, script, numbers, paths, figure)
+        add_threads(alloc, &mut self.lifelines, setting, numbers, paths, figure)
     }
 
     /// Puts the whole chart last.

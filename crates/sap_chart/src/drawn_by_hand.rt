@@ -1,6 +1,6 @@
 //! Rows that are drawn by hand.
 ghost use Rattle.std.specs.Prelude.{◌≡◌, ℕ, codes, List, [], ◌∷◌, Option, Some, None};
-ghost use Rattle.sap_players.specs.Casts.{Cast};
+ghost use Rattle.sap_tell.specs.Scenes.{Scene};
 ghost use Rattle.sap_process.specs.Action as action;
 ghost use Rattle.sap_process.specs.Proc.{Proc, act, nil};
 ghost use Rattle.sap_runs.specs.declared.process_step.PStep.TheVariants as line;
@@ -46,7 +46,7 @@ pub fn charts_by_hand()
     ensures short { shortened 3 (codes "abcdef") ≡ codes "abc.." }
     ensures whole { shortened 3 (codes "abcde") ≡ codes "abcde" }
     ensures begins { (n : ℕ) (s : Stage) (o : Option ℕ) (told label : List ℕ) → rows_of n s o (line.Par 0) told label ≡ [] }
-    ensures empty { (g : Sig) (p : Proc) (cast : Cast) → IsChart g p cast [] [] empty_chart }
+    ensures empty { (g : Sig) (p : Proc) (scene : Scene) → IsChart g p scene [] [] empty_chart }
     ensures known { new_entry (hi ∷ []) (hi ∷ key ∷ []) ≡ Some 1 }
     ensures as_before { new_entry (hi ∷ []) (hi ∷ []) ≡ None }
     ensures run { (g : Sig) → IsChart g (act (action.new fresh_n) nil) no_roles (line.New 0 7 ∷ line.Nil 0 ∷ line.Public (codes "a") ∷ []) [] two_rows }
@@ -54,7 +54,7 @@ pub fn charts_by_hand()
     ensures left_out { (g : Sig) (tr : Trace) → ¬ IsChart g (act (action.new fresh_n) nil) no_roles (line.New 0 7 ∷ line.Nil 0 ∷ line.Public (codes "a") ∷ []) tr row_left_out }
     ensures turned { ¬ (row_text two_lifelines 1 out_row ≡ codes "<g transform='translate(0,100)'><title>8. thread 2 at 111: out(pk(~sk.1)) -- knows 0: pk(~sk.1)</title><text x='10' y='4'>8. thread 2</text><text x='212' y='4' text-anchor='end'>knows 0</text><line x1='220' x2='380' stroke='black' marker-end='url(#arrow)'/><g transform='translate(220,0)'><rect x='8' y='-18' height='13' fill='white' width='106'/><text x='12' y='-7' xml:space='preserve'>out(pk(~sk.1))</text></g></g>\n") }
     ensures unescaped { ¬ (row_text two_lifelines 2 in_row ≡ codes "<g transform='translate(0,130)'><title>11. thread 1 at 2: in('hi') -- shows K('hi'), x = 'hi'</title><text x='10' y='4'>11. thread 1</text><line x1='220' x2='540' stroke='black' marker-end='url(#arrow)'/><g transform='translate(220,0)'><rect x='8' y='-18' height='13' fill='white' width='148'/><text x='12' y='-7' xml:space='preserve'>in(&apos;hi&apos;) -- x = &apos;hi&apos;</text></g></g>\n") }
-    ensures nothing { (g : Sig) (p : Proc) (cast : Cast) (tr : Trace) → ¬ IsChart g p cast [] tr [] }
+    ensures nothing { (g : Sig) (p : Proc) (scene : Scene) (tr : Trace) → ¬ IsChart g p scene [] tr [] }
     ensures no_mark { ¬ IsDocument (codes "a") }
     ensures ampersand { ¬ IsDocument (codes "<a>&</a>\n") }
     ensures greater { ¬ IsDocument (codes "<a>></a>\n") }

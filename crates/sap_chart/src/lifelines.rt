@@ -1,10 +1,10 @@
 //! The threads that are drawn, by their columns.
-ghost use Rattle.std.specs.Prelude.{◌≡◌, ◌<◌, ◌≤◌, ◌^◌, ◌++◌, IfOk, OnOk, codes, fold, length, map};
+ghost use Rattle.std.specs.Prelude.{◌≡◌, ℕ, ◌<◌, ◌≤◌, ◌^◌, ◌++◌, IfOk, OnOk, codes, fold, length, map};
 ghost use Rattle.std.specs.List.{prefix_len};
-ghost use Rattle.sap_roles.specs.Casts.{IsScript, role_count};
+ghost use Rattle.sap_roles.specs.Casts.{role_count};
 ghost use Rattle.sap_tell.specs.Stages.{Stage};
 ghost use Rattle.sap_tell.specs.ToldText.{thread_text};
-ghost use Rattle.sap_teller.specs.Telling.{IsOnStage};
+ghost use Rattle.sap_teller.specs.Settings.{IsOnStage, IsSetting};
 ghost use Rattle.sap_chart.specs.ChartText.{across, across_to, column_of, head_of, head_text, heads_text, opens_none, with_lifeline};
 ghost use Rattle.sap_chart.specs.code.Drawing.{IsHeadPushed, threads_in};
 
@@ -12,9 +12,8 @@ use crate::figure::Figure;
 use crate::labels::{across, push_numbered, push_spelled, shortened};
 use indexmap::IndexMap;
 use sap_players::RoleNumbers;
-use sap_roles::Script;
-use sap_tell::{ThreadPaths, push_thread};
-use sap_teller::part_of;
+use sap_tell::ThreadPaths;
+use sap_teller::{Setting, push_one};
 use sap_terms::Mem;
 use sap_text::Text;
 use std::alloc::Global;
@@ -22,18 +21,17 @@ use std::alloc::Global;
 // What a thread is called, and where it stands.
 fn name_of(
     alloc: Global,
-    script: &Script,
+    setting: &Setting<'_>,
     numbers: &RoleNumbers,
     paths: &ThreadPaths,
     t: u64,
 ) -> Result<Text, Mem>
-    requires script { IsScript script.now }
-    requires count { length numbers.now ≡ role_count script.now }
-    ensures { (s : Stage) → IsOnStage script.now numbers.now paths.now s → IfOk result (λ name. name ≡ thread_text s t) }
+    requires setting { IsSetting setting.now }
+    requires count { length numbers.now ≡ role_count setting.now.script.now }
+    ensures { (count : ℕ) (s : Stage) → IsOnStage setting.now numbers.now paths.now count s → IfOk result (λ name. name ≡ thread_text s t) }
 {
     let mut name = Text::new(alloc);
-    let part = part_of(script, numbers, paths.digits(t), t);
-    push_thread(&mut name, part, paths, t)?;
+    push_one(&mut name, alloc, setting, numbers, paths, t)?;
     Ok(name)
 }
 
@@ -41,20 +39,20 @@ fn name_of(
 fn add(
     alloc: Global,
     lifelines: &mut IndexMap<u64, Text>,
-    script: &Script,
+    setting: &Setting<'_>,
     numbers: &RoleNumbers,
     paths: &ThreadPaths,
     t: u64,
 ) -> Result<(), Mem>
-    requires script { IsScript script.now }
-    requires count { length numbers.now ≡ role_count script.now }
-    ensures { (s : Stage) → IsOnStage script.now numbers.now paths.now s
+    requires setting { IsSetting setting.now }
+    requires count { length numbers.now ≡ role_count setting.now.script.now }
+    ensures { (count : ℕ) (s : Stage) → IsOnStage setting.now numbers.now paths.now count s
         → OnOk result (lifelines.new.entries ≡ with_lifeline lifelines.old.entries (t, thread_text s t)) }
 {
     match lifelines.get_index_of(&t) {
         Some(_) => Ok(()),
         None => {
-            let name = name_of(alloc, script, numbers, paths, t)?;
+            let name = name_of(alloc, setting, numbers, paths, t)?;
             lifelines.insert(t, name)?;
             Ok(())
         }
@@ -65,47 +63,47 @@ fn add(
 fn add_both(
     alloc: Global,
     lifelines: &mut IndexMap<u64, Text>,
-    script: &Script,
+    setting: &Setting<'_>,
     numbers: &RoleNumbers,
     paths: &ThreadPaths,
     s: u64,
     t: u64,
 ) -> Result<(), Mem>
-    requires script { IsScript script.now }
-    requires count { length numbers.now ≡ role_count script.now }
-    ensures { (a : Stage) → IsOnStage script.now numbers.now paths.now a
+    requires setting { IsSetting setting.now }
+    requires count { length numbers.now ≡ role_count setting.now.script.now }
+    ensures { (count : ℕ) (a : Stage) → IsOnStage setting.now numbers.now paths.now count a
         → OnOk result (lifelines.new.entries
         ≡ with_lifeline (with_lifeline lifelines.old.entries (s, thread_text a s)) (t, thread_text a t)) }
 {
-    add(alloc, lifelines, script, numbers, paths, s)?;
-    add(alloc, lifelines, script, numbers, paths, t)
+    add(alloc, lifelines, setting, numbers, paths, s)?;
+    add(alloc, lifelines, setting, numbers, paths, t)
 }
 
 /// Gives each thread of a figure a lifeline, unless it has one, named by what it is called and where it stands.
 pub(crate) fn add_threads(
     alloc: Global,
     lifelines: &mut IndexMap<u64, Text>,
-    script: &Script,
+    setting: &Setting<'_>,
     numbers: &RoleNumbers,
     paths: &ThreadPaths,
     figure: Option<Figure>,
 ) -> Result<(), Mem>
-    requires script { IsScript script.now }
-    requires count { length numbers.now ≡ role_count script.now }
-    ensures { (s : Stage) → IsOnStage script.now numbers.now paths.now s
+    requires setting { IsSetting setting.now }
+    requires count { length numbers.now ≡ role_count setting.now.script.now }
+    ensures { (count : ℕ) (s : Stage) → IsOnStage setting.now numbers.now paths.now count s
         → OnOk result (lifelines.new.entries ≡ fold with_lifeline lifelines.old.entries (threads_in s figure)) }
 {
     match figure {
         None | Some(Figure::Makes) => Ok(()),
-        Some(Figure::Meets(s, t)) => add_both(alloc, lifelines, script, numbers, paths, s, t),
+        Some(Figure::Meets(s, t)) => add_both(alloc, lifelines, setting, numbers, paths, s, t),
         Some(Figure::Puts(t)) | Some(Figure::Takes(t)) => add(
-            alloc, lifelines, script, numbers, paths, t,
+            alloc, lifelines, setting, numbers, paths, t,
         ),
         Some(Figure::Shows(t)) | Some(Figure::Stores(t)) => add(
-            alloc, lifelines, script, numbers, paths, t,
+            alloc, lifelines, setting, numbers, paths, t,
         ),
         Some(Figure::Locks(t)) | Some(Figure::Does(t)) => add(
-            alloc, lifelines, script, numbers, paths, t,
+            alloc, lifelines, setting, numbers, paths, t,
         ),
     }
 }

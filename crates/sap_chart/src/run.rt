@@ -5,11 +5,11 @@ ghost use Rattle.sap_deduce.specs.Entries.{terms_of};
 ghost use Rattle.sap_lines.specs.Answers.{MatchesExactly};
 ghost use Rattle.sap_lines.specs.declared.fault.PFault.{PFault as Fault};
 ghost use Rattle.sap_lines.specs.FirstRefused.{IsFirstRefusedOfProcess};
-ghost use Rattle.sap_players.specs.Casts.{Cast};
 ghost use Rattle.sap_process.specs.Proc.{proc};
-ghost use Rattle.sap_roles.specs.Casts.{IsCastOfScript, IsScript, role_count};
+ghost use Rattle.sap_roles.specs.Casts.{role_count};
 ghost use Rattle.sap_tell.specs.Stages.{Stage};
-ghost use Rattle.sap_teller.specs.Telling.{IsOnStage};
+ghost use Rattle.sap_tell.specs.Scenes.{Scene};
+ghost use Rattle.sap_teller.specs.Settings.{IsOnStage, IsSceneOf, IsSetting};
 ghost use Rattle.sap_process.specs.Ready.{IsReady};
 ghost use Rattle.sap_terms.specs.Signature.{HoldsBuiltins};
 ghost use Rattle.sap_lines.specs.declared.at.At.TheVariants.{Step as StepOf};
@@ -22,10 +22,11 @@ use sap_calc::Config;
 use sap_lines::{At, at_line, limit_excludes, runs_match_exactly};
 use sap_players::RoleNumbers;
 use sap_process::Process;
-use sap_roles::{Script, casts_are_one};
 use sap_runs::{PStep, PSteps};
 use sap_tell::legal_runs_are_told;
-use sap_teller::{Along, note_players, started, tell_line_apart, told_actor};
+use sap_teller::{
+    Along, Setting, note_players, settings_have_scenes, started, tell_line_apart, told_head,
+};
 use sap_terms::{Mem, Signature, Trace};
 use sap_text::Text;
 use std::alloc::Global;
@@ -41,20 +42,20 @@ fn new_entry(before: u64, after: u64) -> Option<u64>
 fn draw_next(
     alloc: Global,
     sig: &Signature,
-    script: &Script,
+    setting: &Setting<'_>,
     config: &mut Config,
     at: &mut Along,
     numbers: &RoleNumbers,
     step: &PStep,
     drawing: &mut Drawing,
 ) -> Result<(), At>
-    requires script { IsScript script.now }
-    requires count { length numbers.now ≡ role_count script.now }
+    requires setting { IsSetting setting.now }
+    requires count { length numbers.now ≡ role_count setting.now.script.now }
     requires sig { config.old.sig ≡ sig.now }
     requires exact { MatchesExactly sig.now (configuration config.old) (terms_of config.old.known) }
     requires facts { at.old.facts ≡ length config.old.facts }
     requires lines { at.old.lines < u64.MAX }
-    ensures ok { OnOk result ((s : Stage) → IsOnStage script.now numbers.now at.old.paths s
+    ensures ok { OnOk result ((s : Stage) → IsOnStage setting.now numbers.now at.old.paths at.old.lines s
         → IsNextDrawn s config.old config.new at.old at.new drawing.old drawing.new step.now) }
     ensures refused { (n : ℕ) (fault : Fault) → result ≡ Err (StepOf n fault)
         → IsDeniedAt config.old step.now (at.old.lines + 1) n fault }
@@ -64,14 +65,14 @@ fn draw_next(
     let known = config.entry_count();
     let mut told = Text::new(alloc);
     let mut apart = Text::new(alloc);
-    let who = told_actor(alloc, script, numbers, &at.paths, step)?;
-    drawing.add_threads(alloc, script, numbers, &at.paths, figure)?;
+    let head = told_head(alloc, setting, numbers, &at.paths, at.lines, step)?;
+    drawing.add_threads(alloc, setting, numbers, &at.paths, figure)?;
     match tell_line_apart(
         alloc,
         sig,
         config,
         at,
-        who.as_bytes(),
+        head.as_bytes(),
         step,
         &mut told,
         &mut apart,
@@ -97,28 +98,28 @@ fn draw_next(
 fn draw_played(
     alloc: Global,
     sig: &Signature,
-    script: &Script,
+    setting: &Setting<'_>,
     config: &mut Config,
     at: &mut Along,
     numbers: &mut RoleNumbers,
     step: &PStep,
     drawing: &mut Drawing,
 ) -> Result<(), At>
-    requires script { IsScript script.now }
-    requires count { length numbers.old ≡ role_count script.now }
+    requires setting { IsSetting setting.now }
+    requires count { length numbers.old ≡ role_count setting.now.script.now }
     requires sig { config.old.sig ≡ sig.now }
     requires exact { MatchesExactly sig.now (configuration config.old) (terms_of config.old.known) }
     requires facts { at.old.facts ≡ length config.old.facts }
     requires lines { at.old.lines < u64.MAX }
-    ensures ok { OnOk result (IsNextPlayed script.now config.old config.new at.old at.new numbers.old numbers.new drawing.old drawing.new step.now) }
+    ensures ok { OnOk result (IsNextPlayed setting.now config.old config.new at.old at.new numbers.old numbers.new drawing.old drawing.new step.now) }
     ensures refused { (n : ℕ) (fault : Fault) → result ≡ Err (StepOf n fault)
         → IsDeniedAt config.old step.now (at.old.lines + 1) n fault }
 {
-    note_players(script, numbers, &at.paths, step)?;
-    draw_next(alloc, sig, script, config, at, numbers, step, drawing)
+    note_players(setting.script, numbers, &at.paths, step)?;
+    draw_next(alloc, sig, setting, config, at, numbers, step, drawing)
 }
 
-/// Puts the chart of a run of a process last, each line done once, threads by their roles in what is written of it; gives what the run
+/// Puts the chart of a run of a process last, each line done once, by the setting; gives what the run
 /// shows. `Step` names the first illegal line, and
 /// then the text is as it was. Its time goes with the process's heads, the lines and the text. It recurses as deep as the process and
 /// the terms of process and run.
@@ -126,15 +127,15 @@ pub fn chart_run(
     alloc: Global,
     sig: &Signature,
     p: &Process,
-    script: &Script,
+    setting: &Setting<'_>,
     run: &PSteps,
     text: &mut Text,
 ) -> Result<Trace, At>
     requires builtins { HoldsBuiltins sig.now }
     requires ready { IsReady sig.now (proc p.now) }
-    requires script { IsScript script.now }
-    ensures charted { (cast : Cast) → IsCastOfScript script.now cast
-        → IfOk result (λ trace. IsCharted sig.now (proc p.now) cast run.now trace text.old text.new) }
+    requires setting { IsSetting setting.now }
+    ensures charted { (scene : Scene) → IsSceneOf setting.now scene
+        → IfOk result (λ trace. IsCharted sig.now (proc p.now) scene run.now trace text.old text.new) }
     ensures refused { (n : ℕ) (fault : Fault) → result ≡ Err (StepOf n fault)
         → IsFirstRefusedOfProcess sig.now (proc p.now) run.now n fault }
     ensures kept { (n : ℕ) (fault : Fault) → result ≡ Err (StepOf n fault) → text.new ≡ text.old }
@@ -142,16 +143,16 @@ pub fn chart_run(
     limit_excludes();
     runs_match_exactly();
     legal_runs_are_told();
-    casts_are_one();
+    settings_have_scenes();
     let mut config = started(alloc, sig, p)?;
     let mut at = Along::start(alloc)?;
-    let mut numbers = RoleNumbers::new(alloc, script.len())?;
+    let mut numbers = RoleNumbers::new(alloc, setting.script.len())?;
     let mut drawing = Drawing::new(alloc);
     for k in 0..run.len() {
         draw_played(
             alloc,
             sig,
-            script,
+            setting,
             &mut config,
             &mut at,
             &mut numbers,

@@ -1,17 +1,21 @@
 -- What is told and drawn of a run means what it says.
-use Rattle.std.proofs.Common.{◌≡◌, List, [], ◌∷◌, ◌++◌, ℕ, ap, ◌∙◌, append_assoc}
+use Rattle.std.proofs.Common.{◌≡◌, List, [], ◌∷◌, ◌++◌, ℕ, ap, map, subst, sym, ◌∙◌, append_assoc}
 use Rattle.std.specs.Prelude.{◌↔◌}
 use Rattle.sap_chart.specs.ChartLaws.{DrawnRunsAreLegal}
 use Rattle.sap_formula.specs.Hide.{hide}
 use Rattle.sap_forward.specs.Converted.{IsShownByLines}
-use Rattle.sap_players.specs.Casts.{Cast}
+use Rattle.sap_tell.specs.Scenes.{Scene}
 use Rattle.sap_read.specs.Files.{FileContent, IsRunnable}
 use Rattle.sap_run_texts.specs.declared.run.Run.{Run}
 use Rattle.sap_run_texts.specs.declared.run.Run.TheVariants as run
 use Rattle.sap_runs.specs.declared.process_step.PStep.{PStep}
 use Rattle.sap_runs.specs.declared.rule_step.RStep.{RStep}
 use Rattle.sap_tell.specs.ToldLaws.{ToldRunsAreLegal}
+use Rattle.sap_formula.specs.Form.{LemmaForm, RestrictionForm}
+use Rattle.sap_terms.specs.Signature.{Sig}
 use Rattle.sap_terms.specs.Trace.{Trace}
+use Rattle.sap_verdicts.specs.Findings.{AreFound, Found, all_stated, stated_lemma}
+use Rattle.sap_replay.specs.Verdicts.{AreVerdicts, all_judged, judged_lemmas, judged_text, line_more, no_line, verdict_line}
 use Rattle.sap_replay.specs.Replays.{AreOpposite, IsJudgedText, IsSeen, of_process, of_rules}
 use Rattle.sap_replay.specs.ToldRuns.{AreLinesOf, own, converted, IsTextOfLines, IsToldAndJudged, IsDrawn, AreOwnOrOpposite, IsToldOf, IsDrawnOf}
 use Rattle.sap_replay.specs.ToldRuns as told
@@ -29,26 +33,40 @@ pub record Laws : Type 0 where
   pub drawn : DrawnRunsAreLegal
 
 -- what is told is legal, and shows this
-told_shown : ToldRunsAreLegal → (f : FileContent) (cast : Cast) (lines : List PStep) (text : List ℕ) (t : IsToldAndJudged f cast lines text) → IsShownByLines f.signature f.process lines t.trace
-told_shown law f cast lines text t =
+told_shown : ToldRunsAreLegal → (f : FileContent) (scene : Scene) (lines : List PStep) (text : List ℕ) (t : IsToldAndJudged f scene lines text) → IsShownByLines f.signature f.process lines t.trace
+told_shown law f scene lines text t =
     let r = t.run in
-    record { config = r.config; entries = r.entries; marks = r.marks; legal = law f.signature f.process cast lines r.config r.entries t.trace r.marks t.draws t.told r.run }
+    record { config = r.config; entries = r.entries; marks = r.marks; legal = law f.signature f.process scene lines r.config r.entries t.trace r.marks t.draws t.told r.run }
 
-drawn_shown : DrawnRunsAreLegal → (f : FileContent) (cast : Cast) (lines : List PStep) (text : List ℕ) (t : IsDrawn f cast lines text) → IsShownByLines f.signature f.process lines t.trace
-drawn_shown law f cast lines text t =
-    let r = law f.signature f.process cast lines t.trace text t.chart in record { config = r.0; entries = r.1; marks = r.2; legal = r.3 }
+drawn_shown : DrawnRunsAreLegal → (f : FileContent) (scene : Scene) (lines : List PStep) (text : List ℕ) (t : IsDrawn f scene lines text) → IsShownByLines f.signature f.process lines t.trace
+drawn_shown law f scene lines text t =
+    let r = law f.signature f.process scene lines t.trace text t.chart in record { config = r.0; entries = r.1; marks = r.2; legal = r.3 }
 
 -- where the lines of a run are legal, it is seen
 seen_of : (f : FileContent) (r : Run) (lines : List PStep) (tr : Trace) → AreLinesOf f r lines → IsShownByLines f.signature f.process lines tr → (shown : Trace) × IsSeen f r shown
 seen_of f _ _ tr (own lines) shown = (tr, of_process shown)
 seen_of f _ _ tr (converted lines c) shown = (hide c.full, of_rules c.state c.full c.counted)
 
+-- what is found of formulas has their verdicts
+lemma_lines : (g : Sig) (tr : Trace) (ls : List LemmaForm) (ys : List Found) → AreFound g tr (map stated_lemma ls) ys → AreVerdicts g tr (judged_lemmas ls) (judged_text ys)
+lemma_lines g tr [] [] a = no_line
+lemma_lines g tr [] (y ∷ ys) a = absurd a
+lemma_lines g tr (l ∷ ls) [] a = absurd a
+lemma_lines g tr (l ∷ ls) (y ∷ ys) a =
+    subst (λ (n : List ℕ). AreVerdicts g tr (judged_lemmas (l ∷ ls)) (verdict_line n y.verdict ++ judged_text ys)) (sym a.0.name) (line_more y.verdict a.0.verdict (lemma_lines g tr ls ys a.1))
+
+all_lines : (g : Sig) (tr : Trace) (rs : List RestrictionForm) (ls : List LemmaForm) (ys : List Found) → AreFound g tr (all_stated rs ls) ys → AreVerdicts g tr (all_judged rs ls) (judged_text ys)
+all_lines g tr [] ls ys a = lemma_lines g tr ls ys a
+all_lines g tr (r ∷ rs) ls [] a = absurd a
+all_lines g tr (r ∷ rs) ls (y ∷ ys) a =
+    subst (λ (n : List ℕ). AreVerdicts g tr (all_judged (r ∷ rs) ls) (verdict_line n y.verdict ++ judged_text ys)) (sym a.0.name) (line_more y.verdict a.0.verdict (all_lines g tr rs ls ys a.1))
+
 -- a run that is told is seen
 pub told_is_seen : Laws → (bytes : List ℕ) (f : FileContent) (r : Run) (text : List ℕ) → IsTextOfLines bytes f (IsToldAndJudged f) r text → (shown : Trace) × IsSeen f r shown
-told_is_seen laws bytes f r text w = seen_of f r w.lines w.written.trace w.of_run (told_shown laws.told f w.cast w.lines text w.written)
+told_is_seen laws bytes f r text w = seen_of f r w.lines w.written.trace w.of_run (told_shown laws.told f w.scene w.lines text w.written)
 
 pub drawn_is_seen : Laws → (bytes : List ℕ) (f : FileContent) (r : Run) (text : List ℕ) → IsTextOfLines bytes f (IsDrawn f) r text → (shown : Trace) × IsSeen f r shown
-drawn_is_seen laws bytes f r text w = seen_of f r w.lines w.written.trace w.of_run (drawn_shown laws.drawn f w.cast w.lines text w.written)
+drawn_is_seen laws bytes f r text w = seen_of f r w.lines w.written.trace w.of_run (drawn_shown laws.drawn f w.scene w.lines text w.written)
 
 own_or_opposite : (f : FileContent) (r : Run) (lines : List PStep) → AreLinesOf f r lines → AreOwnOrOpposite f r lines
 own_or_opposite f _ _ (own lines) = told.own lines
@@ -62,25 +80,26 @@ judged_of alike f _ _ text runnable (told.opposite {rule_lines = rule_lines} lin
 pub told_says : Laws → AreAlike → (bytes : List ℕ) (f : FileContent) (r : Run) (text : List ℕ) → IsRunnable f → IsTextOfLines bytes f (IsToldAndJudged f) r text → IsToldOf bytes f r text
 told_says laws alike bytes f r text runnable w =
     let of_run = own_or_opposite f r w.lines w.of_run in
-    let seen = of_process (told_shown laws.told f w.cast w.lines text w.written) in
+    let seen = of_process (told_shown laws.told f w.scene w.lines text w.written) in
     record {
-      cast = w.cast;
-      roles = w.roles;
+      scene = w.scene;
+      in_file = w.in_file;
       lines = w.lines;
       of_run = of_run;
       written = w.written;
       seen = seen;
-      judged = judged_of alike f r w.lines w.written.verdicts runnable of_run (record { trace = w.written.trace; seen = seen; verdicts = w.written.judged });
+      judged = judged_of alike f r w.lines (judged_text w.written.found) runnable of_run
+          (record { trace = w.written.trace; seen = seen; verdicts = all_lines f.signature w.written.trace f.restrictions f.lemmas w.written.found w.written.judged });
     }
 
 pub drawn_says : Laws → (bytes : List ℕ) (f : FileContent) (r : Run) (text : List ℕ) → IsTextOfLines bytes f (IsDrawn f) r text → IsDrawnOf bytes f r text
 drawn_says laws bytes f r text w = record {
-  cast = w.cast;
-  roles = w.roles;
+  scene = w.scene;
+  in_file = w.in_file;
   lines = w.lines;
   of_run = own_or_opposite f r w.lines w.of_run;
   written = w.written;
-  seen = of_process (drawn_shown laws.drawn f w.cast w.lines text w.written);
+  seen = of_process (drawn_shown laws.drawn f w.scene w.lines text w.written);
 }
 
 -- what stands behind an empty line

@@ -1,11 +1,12 @@
 -- What is said of restrictions and lemmas on a trace.
-use Rattle.std.specs.Prelude.{ℕ, codes, List, [], ◌∷◌, ◌++◌, map}
+use Rattle.std.specs.Prelude.{ℕ, codes, flat_map, List, [], ◌∷◌, ◌++◌, map}
 use Rattle.sap_formula.specs.Form.{Form, RestrictionForm, LemmaForm}
 use Rattle.sap_judge.specs.Verdict.{IsVerdict}
 use Rattle.sap_judge.specs.declared.verdict.Verdict.{Verdict}
 use Rattle.sap_judge.specs.declared.verdict.Verdict.TheVariants.{Holds, Fails, TooCostly}
 use Rattle.sap_terms.specs.Signature.{Sig}
 use Rattle.sap_terms.specs.Trace.{Trace}
+use Rattle.sap_verdicts.specs.Findings.{Found}
 
 -- a formula under its name
 pub record Judged : Type 0 where
@@ -34,6 +35,10 @@ verdict_text (TooCostly cost) = codes "too costly"
 -- its line
 abbrev pub verdict_line : List ℕ → Verdict → List ℕ
 verdict_line name v = name ++ (codes ": " ++ (verdict_text v ++ codes "\n"))
+
+-- those of what is found of formulas
+abbrev pub judged_text : List Found → List ℕ
+judged_text ys = flat_map (λ y. verdict_line y.name y.verdict) ys
 
 -- a line for each, by the truth of its formula on the trace, unless that costs too much to say
 pub data AreVerdicts (g : Sig) (tr : Trace) : List Judged → List ℕ → Type 0 where

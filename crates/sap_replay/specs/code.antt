@@ -1,5 +1,7 @@
 -- What the code does, step by step: no public contract cites what stands below.
+pub mod Found
 pub mod Checked
 pub mod Refused
 pub mod Filled
 pub mod Verdicts
+pub mod Sceneries

@@ -1,15 +1,14 @@
 -- What each line does, where it is possible.
 use denote.Ref.{Bor}
-use Rattle.std.proofs.Common.{◌≡◌, ℕ, true, false, codes, decimal, List, [], ◌∷◌, ◌++◌, zero, suc, length, Option, Some, None, map, refl, sym, ap, subst, ◌∙◌, inl, inr}
+use Rattle.std.proofs.Common.{◌≡◌, ℕ, true, false, codes, List, [], ◌∷◌, ◌++◌, zero, suc, length, Option, Some, None, map, refl, sym, ap, subst, ◌∙◌, inl, inr}
 use Rattle.std.specs.Prelude.{Contains, slice_get, MatchOption}
 use Rattle.std.proofs.lemmas.List.Elements.{All-head, All-contains}
 use Rattle.sap_terms.proofs.PlainLaws.Items.{contains_got, first_item}
 use Rattle.sap_calc.specs.Running.{Running, configuration, WouldFind, FindsNothing}
 use Rattle.sap_calc.specs.ThreadHeads.{HasHead, taken_patterns}
 use Rattle.sap_deduce.specs.Entries.{terms_of}
-use Rattle.sap_called.specs.NamedTerms.{named}
 use Rattle.sap_called.specs.Names.{Draw}
-use Rattle.sap_grammar.specs.TermText.{term_text, variable_text}
+use Rattle.sap_grammar.specs.TermText.{variable_text}
 use Rattle.sap_lines.specs.Answers.{MatchesExactly}
 use Rattle.sap_lines.specs.Lines as lines
 use Rattle.sap_lines.specs.Lines.{IsProcessLine}

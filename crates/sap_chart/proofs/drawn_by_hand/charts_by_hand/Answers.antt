@@ -46,7 +46,7 @@ returns-clause-begins c = λ n paths o told label. refl
 
 pub returns-clause-empty : goal.returns-clause-empty
 unfolding digits escaped_byte
-returns-clause-empty c = λ g p cast. record { config = initial p; entries = []; marks = []; draws = []; rows = []; drawn = drawn.starts; written = refl }
+returns-clause-empty c = λ g p scene. record { config = initial p; entries = []; marks = []; draws = []; rows = []; drawn = drawn.starts; written = refl }
 
 pub returns-clause-first_place : goal.returns-clause-first_place
 unfolding digits
