@@ -1,0 +1,2 @@
+-- Mirrors of how formulas are gone through, for the proofs.
+pub mod Finding
