@@ -1,48 +1,47 @@
--- Lifelines come behind those that are there, so that columns and what is drawn at them stay.
-use Rattle.std.proofs.Common.{◌≡◌, ◌+◌, ℕ, Bool, true, false, not, cond, codes, List, [], ◌∷◌, ◌++◌, ◌||◌, length, map, fold, nat_eq, Option, Some, None, refl, sym, ap, subst, ◌∙◌, append_assoc, arith, if◌then◌else◌}
-use Rattle.std.proofs.Common.{length-append}
+-- Lifelines come behind those that are there, so that columns stay.
+use Rattle.std.proofs.Common.{◌≡◌, ◌+◌, ◌&&◌, ℕ, Bool, true, false, not, cond, List, [], ◌∷◌, ◌++◌, ◌||◌, length, map, fold, nat_eq, Option, Some, None, refl, sym, ap, subst, ◌∙◌, append_assoc, arith, if◌then◌else◌, slice_index_or}
 use Rattle.std.specs.Cmp.{unsigned_Decides}
 use Rattle.std.specs.List.{list_any, position_or_len}
-use Rattle.std.specs.Prelude.{flat_map, ⊤}
-use Rattle.std.proofs.lemmas.Grind.{flat_map-append}
+use Rattle.std.specs.Option.{option_eq}
+use Rattle.std.specs.Prelude.{⊤}
 use Rattle.std.proofs.lemmas.List.{append-nil, map-append}
 use Rattle.std.proofs.lemmas.List.Sums.{fold-append}
+use Rattle.sap_picture.specs.PictureText.{Lifeline}
+use Rattle.sap_picture.specs.declared.figure.Figure.{Figure}
+use Rattle.sap_picture.specs.declared.lifeline.Actor.{Actor}
+use Rattle.sap_picture.specs.declared.placed.Placed.{Placed}
 use Rattle.sap_tell.specs.Stages.{Stage}
-use Rattle.sap_tell.specs.ToldText.{thread_text}
-use Rattle.sap_chart.specs.ChartText.{Lifeline, across, across_to, arrow_text, box_text, drawn_threads, figure_text, lifelines, mark_text, chart_text, named_threads, row_around, row_text, rows_text, with_lifeline}
-use Rattle.sap_chart.specs.Rows.{Row, rows_with, shortened, threads_of}
-use Rattle.sap_chart.specs.code.Drawing.{drawn_text, nobody, threads_in}
-use Rattle.sap_chart.specs.declared.figure.Figure.{Figure}
-use Rattle.sap_chart.specs.declared.figure.Figure.TheVariants as figure
+use Rattle.sap_chart.specs.Lifelines.{actor_of, actors, actors_in, column_of, columns_of, has_actor, head_of, lifelines, placed, same_actor, with_row, with_thread, with_threads}
+use Rattle.sap_chart.specs.Rows.{Row, label_of, rows_with, threads_of}
+use Rattle.sap_chart.specs.code.Drawing.{AreColumns, placed_at, threads_in}
+use Rattle.sap_chart.specs.declared.beginning.Beginning.{Beginning}
+use Rattle.sap_chart.specs.declared.lifelines.Columns.{Columns}
 
--- the thread has a lifeline, and each of these has
-abbrev pub HasLifeline : List Lifeline → ℕ → Type 0
-HasLifeline ls t = list_any (nat_eq t) (drawn_threads ls) ≡ true
-
-abbrev pub HaveLifelines : List Lifeline → List ℕ → Type 0
+-- each of these has a lifeline
+abbrev pub HaveLifelines : List Lifeline → List Actor → Type 0
 HaveLifelines ls [] = ⊤
-HaveLifelines ls (t ∷ ts) = HasLifeline ls t × HaveLifelines ls ts
+HaveLifelines ls (a ∷ as) = (has_actor ls a ≡ true) × HaveLifelines ls as
 
 -- and each thread of these rows
 abbrev pub AllDrawn : List Lifeline → List Row → Type 0
 AllDrawn ls [] = ⊤
-AllDrawn ls (r ∷ rs) = HaveLifelines ls (threads_of r.figure) × AllDrawn ls rs
+AllDrawn ls (r ∷ rs) = HaveLifelines ls (actors_in r) × AllDrawn ls rs
 
-any_front : (p : ℕ → Bool) (xs ys : List ℕ) → list_any p xs ≡ true → list_any p (xs ++ ys) ≡ true
+any_front : (p : Actor → Bool) (xs ys : List Actor) → list_any p xs ≡ true → list_any p (xs ++ ys) ≡ true
 any_front p [] ys h = cc
 any_front p (x ∷ xs) ys h = at (p x) (any_front p xs ys) h where
   at : (b : Bool) → (list_any p xs ≡ true → list_any p (xs ++ ys) ≡ true) → (b || list_any p xs) ≡ true → (b || list_any p (xs ++ ys)) ≡ true
   at true f h = refl
   at false f h = f h
 
-any_last : (p : ℕ → Bool) (xs : List ℕ) (x : ℕ) → p x ≡ true → list_any p (xs ++ x ∷ []) ≡ true
+any_last : (p : Actor → Bool) (xs : List Actor) (x : Actor) → p x ≡ true → list_any p (xs ++ x ∷ []) ≡ true
 any_last p [] x h = rw h refl
 any_last p (y ∷ ys) x h = at (p y) (any_last p ys x h) where
   at : (b : Bool) → list_any p (ys ++ x ∷ []) ≡ true → (b || list_any p (ys ++ x ∷ [])) ≡ true
   at true e = refl
   at false e = e
 
-position_front : (p : ℕ → Bool) (xs ys : List ℕ) → list_any p xs ≡ true → position_or_len p (xs ++ ys) ≡ position_or_len p xs
+position_front : (p : Actor → Bool) (xs ys : List Actor) → list_any p xs ≡ true → position_or_len p (xs ++ ys) ≡ position_or_len p xs
 position_front p [] ys h = cc
 position_front p (x ∷ xs) ys h = at (p x) (position_front p xs ys) h where
   at : (b : Bool) → (list_any p xs ≡ true → position_or_len p (xs ++ ys) ≡ position_or_len p xs) → (b || list_any p xs) ≡ true
@@ -50,126 +49,104 @@ position_front p (x ∷ xs) ys h = at (p x) (position_front p xs ys) h where
   at true f h = refl
   at false f h = ap (λ n. 1 + n) (f h)
 
-threads_append : (ls more : List Lifeline) → drawn_threads (ls ++ more) ≡ drawn_threads ls ++ drawn_threads more
-threads_append ls more = map-append (λ (l : Lifeline). l.0) ls more
+actors_append : (ls more : List Lifeline) → actors (ls ++ more) ≡ actors ls ++ actors more
+actors_append ls more = map-append (λ (l : Lifeline). l.0) ls more
+
+pub own_actor : (a : Actor) → same_actor a a ≡ true
+own_actor a = rw ((unsigned_Decides a.thread a.thread).1 refl) (role a.role) where
+  role : (o : Option ℕ) → option_eq nat_eq o o ≡ true
+  role None = refl
+  role (Some k) = (unsigned_Decides k k).1 refl
 
 -- who has a lifeline keeps it, and its column
-kept : (ls more : List Lifeline) (t : ℕ) → HasLifeline ls t → HasLifeline (ls ++ more) t
-kept ls more t h = ap (list_any (nat_eq t)) (threads_append ls more) ∙ any_front (nat_eq t) (drawn_threads ls) (drawn_threads more) h
+kept : (ls more : List Lifeline) (a : Actor) → has_actor ls a ≡ true → has_actor (ls ++ more) a ≡ true
+kept ls more a h = ap (list_any (same_actor a)) (actors_append ls more) ∙ any_front (same_actor a) (actors ls) (actors more) h
 
-column_kept : (ls more : List Lifeline) (t : ℕ) → HasLifeline ls t → across_to (ls ++ more) t ≡ across_to ls t
-column_kept ls more t h = ap (λ n. across (n + 1)) (ap (position_or_len (nat_eq t)) (threads_append ls more) ∙ position_front (nat_eq t) (drawn_threads ls) (drawn_threads more) h)
+column_kept : (ls more : List Lifeline) (a : Actor) → has_actor ls a ≡ true → column_of (ls ++ more) a ≡ column_of ls a
+column_kept ls more a h = ap (λ n. n + 1) (ap (position_or_len (same_actor a)) (actors_append ls more) ∙ position_front (same_actor a) (actors ls) (actors more) h)
 
-all_kept : (ls more : List Lifeline) (ts : List ℕ) → HaveLifelines ls ts → HaveLifelines (ls ++ more) ts
+all_kept : (ls more : List Lifeline) (as : List Actor) → HaveLifelines ls as → HaveLifelines (ls ++ more) as
 all_kept ls more [] h = tt
-all_kept ls more (t ∷ ts) h = (kept ls more t h.0, all_kept ls more ts h.1)
+all_kept ls more (a ∷ as) h = (kept ls more a h.0, all_kept ls more as h.1)
 
 rows_kept : (ls more : List Lifeline) (rs : List Row) → AllDrawn ls rs → AllDrawn (ls ++ more) rs
 rows_kept ls more [] h = tt
-rows_kept ls more (r ∷ rs) h = (all_kept ls more (threads_of r.figure) h.0, rows_kept ls more rs h.1)
+rows_kept ls more (r ∷ rs) h = (all_kept ls more (actors_in r) h.0, rows_kept ls more rs h.1)
 
 all_drawn_more : (ls : List Lifeline) (rs more : List Row) → AllDrawn ls rs → AllDrawn ls more → AllDrawn ls (rs ++ more)
 all_drawn_more ls [] more h k = k
 all_drawn_more ls (r ∷ rs) more h k = (h.0, all_drawn_more ls rs more h.1 k)
 
--- what is drawn at columns that stay, stays
-figure_kept : (ls more : List Lifeline) (f : Figure) (label : List ℕ) → HaveLifelines ls (threads_of f) → figure_text (ls ++ more) f label ≡ figure_text ls f label
-figure_kept ls more (figure.Puts t) label h = ap (λ x. arrow_text x (across 0) label) (column_kept ls more t h.0)
-figure_kept ls more (figure.Takes t) label h = ap (λ x. arrow_text (across 0) x label) (column_kept ls more t h.0)
-figure_kept ls more (figure.Meets s t) label h = ap (λ x. arrow_text x (across_to (ls ++ more) t) label) (column_kept ls more s h.0) ∙ ap (λ x. arrow_text (across_to ls s) x label) (column_kept ls more t h.1.0)
-figure_kept ls more (figure.Shows t) label h = ap (λ x. box_text x label) (column_kept ls more t h.0)
-figure_kept ls more (figure.Stores t) label h = ap (λ x. mark_text x (codes "'/><rect x='-4' y='-4' width='8' height='8' fill='white' stroke='black'/><text x='12' y='4' xml:space='preserve'>") label) (column_kept ls more t h.0)
-figure_kept ls more (figure.Locks t) label h = ap (λ x. mark_text x (codes "'/><rect x='-4' y='-4' width='8' height='8'/><text x='12' y='4' xml:space='preserve'>") label) (column_kept ls more t h.0)
-figure_kept ls more (figure.Does t) label h = ap (λ x. mark_text x (codes "'/><circle r='4'/><text x='12' y='4' xml:space='preserve'>") label) (column_kept ls more t h.0)
-figure_kept ls more figure.Makes label h = refl
+columns_kept : (ls more : List Lifeline) (as : List Actor) → HaveLifelines ls as → map (column_of (ls ++ more)) as ≡ map (column_of ls) as
+columns_kept ls more [] h = refl
+columns_kept ls more (a ∷ as) h = (λ i. column_kept ls more a h.0 i ∷ columns_kept ls more as h.1 i)
 
-texts_kept : (ls more : List Lifeline) (k : ℕ) (rs : List Row) → AllDrawn ls rs → rows_text (ls ++ more) k rs ≡ rows_text ls k rs
-texts_kept ls more k [] h = refl
-texts_kept ls more k (r ∷ rs) h = (λ i. row_around k r (figure_kept ls more r.figure (shortened 58 r.label) h.0 i) ++ texts_kept ls more (k + 1) rs h.1 i)
 
-texts_append : (ls : List Lifeline) (k : ℕ) (rs more : List Row) → rows_text ls k (rs ++ more) ≡ rows_text ls k rs ++ rows_text ls (k + length rs) more
-texts_append ls k [] more = let e : k ≡ k + length {A = Row} [] = omega arith in ap (λ n. rows_text ls n more) e
-texts_append ls k (r ∷ rs) more =
-    let e : k + 1 + length rs ≡ k + length (r ∷ rs) = omega arith in
-    ap (λ z. row_text ls k r ++ z) (texts_append ls (k + 1) rs more)
-    ∙ sym (append_assoc (row_text ls k r) (rows_text ls (k + 1) rs) (rows_text ls (k + 1 + length rs) more))
-    ∙ ap (λ n. (row_text ls k r ++ rows_text ls (k + 1) rs) ++ rows_text ls n more) e
+placed_kept : (ls more : List Lifeline) (rs : List Row) → AllDrawn ls rs → map (placed (ls ++ more)) rs ≡ map (placed ls) rs
+placed_kept ls more [] h = refl
+placed_kept ls more (r ∷ rs) h = (λ i. record {
+  number = r.number; figure = r.figure; first = slice_index_or (columns_kept ls more (actors_in r) h.0 i) 0 0; second = slice_index_or (columns_kept ls more (actors_in r) h.0 i) 1 0;
+  entry = r.entry; told = r.told; label = r.label;
+} ∷ placed_kept ls more rs h.1 i)
 
 -- lifelines come behind those that are there
 record Grown (ls ms : List Lifeline) : Type 0 where
   more : List Lifeline
   is : ms ≡ ls ++ more
 
-one_grown : (ls : List Lifeline) (a : Lifeline) → Grown ls (with_lifeline ls a)
-one_grown ls a = at (list_any (nat_eq a.0) (drawn_threads ls)) where
-  at : (b : Bool) → Grown ls (if b then ls else ls ++ a ∷ [])
+one_grown : (s : Stage) (begun : List Beginning) (ls : List Lifeline) (t : ℕ) → Grown ls (with_thread s begun ls t)
+one_grown s begun ls t = at (has_actor ls (actor_of s t)) where
+  at : (b : Bool) → Grown ls (if b then ls else ls ++ (actor_of s t, head_of ls s begun t) ∷ [])
   at true = record { more = []; is = sym (append-nil ls) }
-  at false = record { more = a ∷ []; is = refl }
+  at false = record { more = (actor_of s t, head_of ls s begun t) ∷ []; is = refl }
 
-all_grown : (ls news : List Lifeline) → Grown ls (fold with_lifeline ls news)
-all_grown ls [] = record { more = []; is = sym (append-nil ls) }
-all_grown ls (a ∷ news) =
-    let h = one_grown ls a in
-    let k = all_grown (with_lifeline ls a) news in
+all_grown : (s : Stage) (begun : List Beginning) (ls : List Lifeline) (ts : List ℕ) → Grown ls (with_threads s begun ls ts)
+all_grown s begun ls [] = record { more = []; is = sym (append-nil ls) }
+all_grown s begun ls (t ∷ ts) =
+    let h = one_grown s begun ls t in
+    let k = all_grown s begun (with_thread s begun ls t) ts in
     record { more = h.more ++ k.more; is = k.is ∙ ap (λ z. z ++ k.more) h.is ∙ append_assoc ls h.more k.more }
 
-one_has : (ls : List Lifeline) (a : Lifeline) → HasLifeline (with_lifeline ls a) a.0
-one_has ls a = at (list_any (nat_eq a.0) (drawn_threads ls)) refl where
-  at : (b : Bool) → list_any (nat_eq a.0) (drawn_threads ls) ≡ b → HasLifeline (if b then ls else ls ++ a ∷ []) a.0
+one_has : (s : Stage) (begun : List Beginning) (ls : List Lifeline) (t : ℕ) → has_actor (with_thread s begun ls t) (actor_of s t) ≡ true
+one_has s begun ls t = at (has_actor ls (actor_of s t)) refl where
+  at : (b : Bool) → has_actor ls (actor_of s t) ≡ b → has_actor (if b then ls else ls ++ (actor_of s t, head_of ls s begun t) ∷ []) (actor_of s t) ≡ true
   at true h = h
-  at false h = ap (list_any (nat_eq a.0)) (threads_append ls (a ∷ [])) ∙ any_last (nat_eq a.0) (drawn_threads ls) a.0 ((unsigned_Decides a.0 a.0).1 refl)
+  at false h = ap (list_any (same_actor (actor_of s t))) (actors_append ls ((actor_of s t, head_of ls s begun t) ∷ []))
+      ∙ any_last (same_actor (actor_of s t)) (actors ls) (actor_of s t) (own_actor (actor_of s t))
 
-all_have : (ls news : List Lifeline) → HaveLifelines (fold with_lifeline ls news) (drawn_threads news)
-all_have ls [] = tt
-all_have ls (a ∷ news) =
-    let g = all_grown (with_lifeline ls a) news in
-    (subst (λ (ms : List Lifeline). HasLifeline ms a.0) (sym g.is) (kept (with_lifeline ls a) g.more a.0 (one_has ls a)), all_have (with_lifeline ls a) news)
-
-threads_named : (s : Stage) (ts : List ℕ) → drawn_threads (map (λ t. (t, thread_text s t)) ts) ≡ ts
-threads_named s [] = refl
-threads_named s (t ∷ ts) = ap (λ z. t ∷ z) (threads_named s ts)
+all_have : (s : Stage) (begun : List Beginning) (ls : List Lifeline) (ts : List ℕ) → HaveLifelines (with_threads s begun ls ts) (map (actor_of s) ts)
+all_have s begun ls [] = tt
+all_have s begun ls (t ∷ ts) =
+    let g = all_grown s begun (with_thread s begun ls t) ts in
+    (subst (λ (ms : List Lifeline). has_actor ms (actor_of s t) ≡ true) (sym g.is) (kept (with_thread s begun ls t) g.more (actor_of s t) (one_has s begun ls t)), all_have s begun (with_thread s begun ls t) ts)
 
 -- so far these rows are drawn
-pub record IsDrawing (ls : List Lifeline) (body : List ℕ) (count : ℕ) (rows : List Row) : Type 0 where
+pub record IsDrawing (ls : List Lifeline) (drawn_rows : List Placed) (rows : List Row) : Type 0 where
   pub lines : ls ≡ lifelines rows
   pub drawn : AllDrawn ls rows
-  pub text : body ≡ rows_text ls 0 rows
-  pub counted : count ≡ length rows
+  pub rows_are : drawn_rows ≡ map (placed ls) rows
 
-pub no_drawing : IsDrawing [] [] 0 []
-no_drawing = record { lines = refl; drawn = tt; text = refl; counted = refl }
-
-lifelines_more : (rows : List Row) (r : Row) → lifelines (rows ++ r ∷ []) ≡ fold with_lifeline (lifelines rows) (named_threads r)
-lifelines_more rows r =
-    ap (fold with_lifeline []) (flat_map-append named_threads rows (r ∷ []) ∙ ap (λ z. flat_map named_threads rows ++ z) (append-nil (named_threads r)))
-    ∙ fold-append with_lifeline [] (flat_map named_threads rows) (named_threads r)
+pub no_drawing : IsDrawing [] [] []
+no_drawing = record { lines = refl; drawn = tt; rows_are = refl }
 
 -- one more line, which has a row or hasn't
-pub next_drawing : (ls ms : List Lifeline) (body text : List ℕ) (count n : ℕ) (rows : List Row) (number : ℕ) (stage : Stage) (entry : Option ℕ) (told label : List ℕ) (o : Option Figure)
-    → IsDrawing ls body count rows → ms ≡ fold with_lifeline ls (threads_in stage o)
-    → text ≡ body ++ rows_text ms count (rows_with number nobody entry told label o) → n ≡ count + length (rows_with number nobody entry told label o)
-    → IsDrawing ms text n (rows ++ rows_with number stage entry told label o)
-next_drawing ls ms body text count n rows number stage entry told label None h p q s =
-    let same : n ≡ count = omega arith in
-    let here : text ≡ body = q ∙ append-nil body in
-    rw (append-nil rows) (subst (λ (zs : List Lifeline). IsDrawing zs text n rows) (sym p) (rw (same, here) h))
-next_drawing ls ms body text count n rows number stage entry told label (Some f) h p q s =
-    let r : Row = record { number = number; stage = stage; figure = f; entry = entry; told = told; label = label } in
-    let g = all_grown ls (named_threads r) in
+pub next_drawing : (ls ms : List Lifeline) (ps qs : List Placed) (rows : List Row) (number : ℕ) (stage : Stage) (begun : List Beginning) (cs : Columns) (entry : Option ℕ) (told text : List ℕ) (o : Option Figure)
+    → IsDrawing ls ps rows → ms ≡ with_threads stage begun ls (threads_in o) → AreColumns ms stage (threads_in o) cs
+    → qs ≡ ps ++ placed_at number cs entry told text o
+    → IsDrawing ms qs (rows ++ rows_with number stage begun entry told text o)
+next_drawing ls ms ps qs rows number stage begun cs entry told text None h p k q =
+    let here : qs ≡ ps = q ∙ append-nil ps in
+    rw (append-nil rows) (subst (λ (zs : List Lifeline). IsDrawing zs qs rows) (sym p) (subst (λ (zs : List Placed). IsDrawing ls zs rows) (sym here) h))
+next_drawing ls ms ps qs rows number stage begun cs entry told text (Some f) h p k q =
+    let r : Row = record { number = number; stage = stage; begun = begun; figure = f; entry = entry; told = told; label = label_of f text } in
+    let g = all_grown stage begun ls (threads_of f) in
     let grown : ms ≡ ls ++ g.more = p ∙ g.is in
     let old : AllDrawn ms rows = subst (λ (zs : List Lifeline). AllDrawn zs rows) (sym grown) (rows_kept ls g.more rows h.drawn) in
-    let here : HaveLifelines ms (threads_of f) = subst (λ (zs : List Lifeline). HaveLifelines zs (threads_of f)) (sym p) (subst (HaveLifelines (fold with_lifeline ls (named_threads r))) (threads_named stage (threads_of f)) (all_have ls (named_threads r))) in
-    let before : body ≡ rows_text ms 0 rows = h.text ∙ sym (texts_kept ls g.more 0 rows h.drawn) ∙ ap (λ zs. rows_text zs 0 rows) (sym grown) in
-    let at : count ≡ 0 + length rows = h.counted ∙ (omega arith) in
+    let here : HaveLifelines ms (actors_in r) = subst (λ (zs : List Lifeline). HaveLifelines zs (actors_in r)) (sym p) (all_have stage begun ls (threads_of f)) in
+    let before : ps ≡ map (placed ms) rows = h.rows_are ∙ sym (placed_kept ls g.more rows h.drawn) ∙ ap (λ zs. map (placed zs) rows) (sym grown) in
     record {
-      lines = p ∙ ap (λ zs. fold with_lifeline zs (named_threads r)) h.lines ∙ sym (lifelines_more rows r);
+      lines = p ∙ ap (λ zs. with_threads stage begun zs (threads_of f)) h.lines ∙ sym (fold-append with_row [] rows (r ∷ []));
       drawn = all_drawn_more ms rows (r ∷ []) old (here, tt);
-      text = q ∙ (λ i. before i ++ rows_text ms (at i) (r ∷ [])) ∙ sym (texts_append ms 0 rows (r ∷ []));
-      counted = s ∙ ap (λ k. k + 1) h.counted ∙ sym (length-append rows (r ∷ []));
+      rows_are = q ∙ (λ i. before i ++ (record { number = number; figure = f; first = k.first_is i; second = k.second_is i; entry = entry; told = told; label = label_of f text } ∷ []))
+          ∙ sym (map-append (placed ms) rows (r ∷ []));
     }
-
--- all rows are drawn: this is their chart
-pub all_drawing : (ls : List Lifeline) (body : List ℕ) (count : ℕ) (rows : List Row) → IsDrawing ls body count rows → drawn_text ls count body ≡ chart_text rows
-all_drawing ls body count rows h =
-    ap (λ z. drawn_text ls count z) h.text ∙ ap (λ k. drawn_text ls k (rows_text ls 0 rows)) h.counted
-    ∙ ap (λ zs. drawn_text zs (length rows) (rows_text zs 0 rows)) h.lines

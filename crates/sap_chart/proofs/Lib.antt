@@ -1,14 +1,10 @@
-mod Pushed
 mod Found
-mod Heads
 mod Columns
 mod LegalDrawn
 mod DrawnRuns
 mod NextDrawn
-mod Formed
-mod ChartsByHand
 mod OneChart
-mod NoDocuments
 mod OneLifeline
-mod ReadBack
 mod AllRows
+mod Kept
+mod Threads

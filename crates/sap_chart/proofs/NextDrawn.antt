@@ -1,5 +1,5 @@
 -- One line that is told and drawn, from its parts.
-use Rattle.std.proofs.Common.{◌≡◌, ◌+◌, ℕ, List, [], ◌++◌, fold, length, Option, Some, None, if◌then◌else◌, nat_lt, sym, ap, subst, ◌∙◌}
+use Rattle.std.proofs.Common.{◌≡◌, ◌+◌, ℕ, List, [], ◌++◌, length, Option, Some, None, if◌then◌else◌, nat_lt, sym, ap, subst, ◌∙◌}
 use Rattle.std.proofs.lemmas.List.{length-map}
 use Rattle.sap_calc.specs.Running.{Running}
 use Rattle.sap_deduce.specs.Entries.{Entry, terms_of}
@@ -7,14 +7,15 @@ use Rattle.sap_runs.specs.declared.process_step.PStep.{PStep}
 use Rattle.sap_terms.specs.Trace.{shown}
 use Rattle.sap_terms.specs.declared.fact.Fact.{Fact}
 use Rattle.sap_tell.specs.Stages.{Stage}
-use Rattle.sap_tell.specs.ToldText.{actor_text}
+use Rattle.sap_tell.specs.ToldText.{head_told}
 use Rattle.sap_teller.specs.Telling.{IsToldApart}
 use Rattle.sap_teller.specs.declared.telling.Along.{Along}
-use Rattle.sap_chart.specs.ChartText.{rows_text, with_lifeline}
-use Rattle.sap_chart.specs.Rows.{figure_of, new_entry, rows_with}
-use Rattle.sap_chart.specs.code.Drawing.{IsNextDrawn, nobody, threads_in}
-use Rattle.sap_chart.specs.declared.chart.Drawing.{Drawing}
-use Rattle.sap_chart.specs.declared.figure.Figure.{Figure}
+use Rattle.sap_chart.specs.Rows.{figure_of, new_entry}
+use Rattle.sap_chart.specs.Beginnings.{begun_in}
+use Rattle.sap_chart.specs.code.Drawing.{AreColumns, IsNextDrawn, KnowsThreads, placed_at, threads_in, with_figure}
+use Rattle.sap_chart.specs.declared.lifelines.Columns.{Columns}
+use Rattle.sap_chart.specs.declared.run.Drawing.{Drawing}
+use Rattle.sap_picture.specs.declared.figure.Figure.{Figure}
 
 count_is : (r : Running) → length r.known ≡ length (terms_of r.known)
 count_is r = sym (length-map r.known (λ (e : Entry). e.term))
@@ -27,20 +28,23 @@ entry_is y z known after p q =
     (λ i. if nat_lt (before i) (behind i) then Some (before i) else None)
 
 -- lifelines come, the line is told, and its row comes
-pub next_drawn : (s : Stage) (who : List ℕ) (y z : Running) (a b : Along) (d m e : Drawing) (step : PStep) (label : List Fact) (before told start apart title words : List ℕ) (o : Option Figure) (entry : Option ℕ)
-    → who ≡ actor_text s step → before ≡ [] → start ≡ [] → title ≡ told → words ≡ apart → o ≡ figure_of step → entry ≡ new_entry (terms_of y.known) (terms_of z.known)
+pub next_drawn : (s : Stage) (who : List ℕ) (y z : Running) (a b : Along) (d e : Drawing) (columns : Columns) (step : PStep) (label : List Fact) (before told start apart : List ℕ) (o : Option Figure) (entry : Option ℕ)
+    → who ≡ head_told s step → before ≡ [] → start ≡ [] → o ≡ figure_of step → entry ≡ new_entry (terms_of y.known) (terms_of z.known)
     → IsToldApart y z a b who before told start apart step label
-    → m.lifelines.entries ≡ fold with_lifeline d.lifelines.entries (threads_in s o) → m.body ≡ d.body → m.rows ≡ d.rows → m.trace ≡ d.trace
-    → e.lifelines.entries ≡ m.lifelines.entries → e.body ≡ m.body ++ rows_text m.lifelines.entries m.rows (rows_with (a.lines + 1) nobody entry title words o)
-    → e.rows ≡ m.rows + length (rows_with (a.lines + 1) nobody entry title words o) → e.trace ≡ m.trace ++ shown label
+    → e.lifelines.heads.entries ≡ with_figure s d.lifelines.begun.items d.lifelines.heads.entries o → AreColumns e.lifelines.heads.entries s (threads_in o) columns → KnowsThreads e.lifelines
+    → e.lifelines.begun.items ≡ d.lifelines.begun.items ++ begun_in (a.lines + 1) step
+    → e.rows.items ≡ d.rows.items ++ placed_at (a.lines + 1) columns entry told apart o → e.trace ≡ d.trace ++ shown label
     → IsNextDrawn s y z a b d e step
-next_drawn s who y z a b d m e step label before told start apart title words o entry acts p q r v t n done ml mb mr mt el eb er et = record {
+next_drawn s who y z a b d e columns step label before told start apart o entry acts p q t n done heads cs threads begun rows trace = record {
   label = label;
   told = told;
   apart = apart;
-  done = subst (λ (w : List ℕ). IsToldApart y z a b (actor_text s step) [] told w apart step label) q (subst (λ (w : List ℕ). IsToldApart y z a b (actor_text s step) w told start apart step label) p (subst (λ (w : List ℕ). IsToldApart y z a b w before told start apart step label) acts done));
-  lifelines = el ∙ ml ∙ ap (λ x. fold with_lifeline d.lifelines.entries (threads_in s x)) t;
-  body = eb ∙ (λ i. mb i ++ rows_text (sym el i) (mr i) (rows_with (a.lines + 1) nobody (n i) (r i) (v i) (t i)));
-  rows = er ∙ (λ i. mr i + length (rows_with (a.lines + 1) nobody (n i) (r i) (v i) (t i)));
-  trace = et ∙ ap (λ x. x ++ shown label) mt;
+  columns = columns;
+  done = subst (λ (w : List ℕ). IsToldApart y z a b (head_told s step) [] told w apart step label) q (subst (λ (w : List ℕ). IsToldApart y z a b (head_told s step) w told start apart step label) p (subst (λ (w : List ℕ). IsToldApart y z a b w before told start apart step label) acts done));
+  lifelines = heads ∙ ap (with_figure s d.lifelines.begun.items d.lifelines.heads.entries) t;
+  columns_are = subst (λ (x : Option Figure). AreColumns e.lifelines.heads.entries s (threads_in x) columns) t cs;
+  threads = threads;
+  begun = begun;
+  rows = rows ∙ (λ i. d.rows.items ++ placed_at (a.lines + 1) columns (n i) told apart (t i));
+  trace = trace;
 }

@@ -6,7 +6,7 @@ use Rattle.sap_lines.specs.Answers.{MatchesExactly, ProcessLinesHaveOneOutcome, 
 use Rattle.sap_lines.specs.Lines as lines
 use Rattle.sap_lines.specs.Lines.{IsProcessLine}
 use Rattle.sap_lines.specs.Runs.{SmallProcessLinesAreLines, SmallProcessRunsAreLegal}
-use Rattle.sap_players.specs.Casts.{Cast}
+use Rattle.sap_tell.specs.Scenes.{Scene}
 use Rattle.sap_process.specs.Configuration.{Config}
 use Rattle.sap_process.specs.Proc.{Proc}
 use Rattle.sap_process.specs.Ready.{IsReady}
@@ -22,11 +22,12 @@ use Rattle.sap_tell.specs.Draws.{draws_after}
 use Rattle.sap_tell.specs.Stages.{stage_of}
 use Rattle.sap_tell.specs.Told.{IsDoing}
 use Rattle.sap_tell.specs.ToldLaws.{LinesDoOneThing, ToldRunsAreLegal}
-use Rattle.sap_tell.specs.ToldText.{actor_text, line_text, outcomes_text, seen_texts}
+use Rattle.sap_tell.specs.ToldText.{head_told, line_text, outcomes_text, seen_texts}
 use Rattle.sap_chart.specs.Chart as drawn
 use Rattle.sap_chart.specs.Chart.{IsChart, IsDrawnRun}
 use Rattle.sap_chart.specs.ChartLaws.{LinesWithoutRowsAreBare, RunsAreDrawnByOneChart}
-use Rattle.sap_chart.specs.ChartText.{chart_text}
+use Rattle.sap_chart.specs.Beginnings.{beginnings}
+use Rattle.sap_chart.specs.Lifelines.{chart_text}
 use Rattle.sap_chart.specs.Rows.{Row, new_entry, rows_of}
 use Rattle.sap_chart.proofs.LegalDrawn.{legal_too}
 
@@ -50,11 +51,11 @@ record AreOneDrawing (c d : Config) (es fs : List Tree) (ds hs : List Draw) (row
   draws : ds ≡ hs
   same_rows : rows ≡ others
 
-module _ (laws : Laws) (g : Sig) (p : Proc) (cast : Cast) (hold : HoldsBuiltins g) (ready : IsReady g p) where
-  exactly : {ls : List PStep} {c : Config} {es : List Tree} {tr : Trace} {ms : List Mark} {ds : List Draw} {rows : List Row} → IsDrawnRun g p cast ls c es tr ms ds rows → MatchesExactly g c es
+module _ (laws : Laws) (g : Sig) (p : Proc) (scene : Scene) (hold : HoldsBuiltins g) (ready : IsReady g p) where
+  exactly : {ls : List PStep} {c : Config} {es : List Tree} {tr : Trace} {ms : List Mark} {ds : List Draw} {rows : List Row} → IsDrawnRun g p scene ls c es tr ms ds rows → MatchesExactly g c es
   exactly run = laws.exactly g p _ _ _ _ _ hold ready (laws.small_runs g p _ _ _ _ _ (legal_too laws.legal run))
 
-  one_drawing : {ls ks : List PStep} {c d : Config} {es fs : List Tree} {tr ur : Trace} {ms ns : List Mark} {ds hs : List Draw} {rows others : List Row} → IsDrawnRun g p cast ls c es tr ms ds rows → IsDrawnRun g p cast ks d fs ur ns hs others
+  one_drawing : {ls ks : List PStep} {c d : Config} {es fs : List Tree} {tr ur : Trace} {ms ns : List Mark} {ds hs : List Draw} {rows others : List Row} → IsDrawnRun g p scene ls c es tr ms ds rows → IsDrawnRun g p scene ks d fs ur ns hs others
       → ls ≡ ks → AreOneDrawing c d es fs ds hs rows others
   one_drawing drawn.starts drawn.starts e = record { configs = refl; entries = refl; draws = refl; same_rows = refl }
   one_drawing drawn.starts (drawn.further {lines = ks} step inner label t h l x) e = absurd (never_empty ks step e)
@@ -80,19 +81,19 @@ module _ (laws : Laws) (g : Sig) (p : Proc) (cast : Cast) (hold : HoldsBuiltins 
       let doing = laws.one_thing g hs c c_next es fs step inner label x.doing x'.doing x.outcomes x'.outcomes (exactly h) l x.done done in
       let told : t ≡ t' =
       x.written
-      ∙ (λ i. line_text (length (ends.0 i) + 1) (actor_text (stage_of cast (ends.0 i) (ends.1 i)) (ends.1 i)) (doing.0 i) (seen_texts (names i) (one.labels i) (before.entries i) (one.entries i) ++ doing.1 i))
+      ∙ (λ i. line_text (length (ends.0 i) + 1) (head_told (stage_of scene (ends.0 i) (ends.1 i)) (ends.1 i)) (doing.0 i) (seen_texts (names i) (one.labels i) (before.entries i) (one.entries i) ++ doing.1 i))
       ∙ sym x'.written in
       record {
         configs = one.configurations;
         entries = one.entries;
         draws = names;
-        same_rows = λ i. before.same_rows i ++ rows_of (length (ends.0 i) + 1) (stage_of cast (ends.0 i) (ends.1 i)) (new_entry (before.entries i) (one.entries i)) (ends.1 i) (told i) (doing.0 i ++ outcomes_text (doing.1 i));
+        same_rows = λ i. before.same_rows i ++ rows_of (length (ends.0 i) + 1) (stage_of scene (ends.0 i) (ends.1 i)) (beginnings (ends.0 i)) (new_entry (before.entries i) (one.entries i)) (ends.1 i) (told i) (doing.0 i ++ outcomes_text (doing.1 i));
       }
 
 pub one_chart : Laws → RunsAreDrawnByOneChart
-one_chart laws g p cast ls tr ur text other hold ready x y =
-    let r = one_drawing laws g p cast hold ready x.drawn y.drawn refl in
-    x.written ∙ ap chart_text r.same_rows ∙ sym y.written
+one_chart laws g p scene ls tr ur of_rows below text other hold ready x y =
+    let r = one_drawing laws g p scene hold ready x.drawn y.drawn refl in
+    x.written ∙ ap (λ rs. chart_text rs of_rows below) r.same_rows ∙ sym y.written
 
 -- threads that only begin or end do nothing inside, show nothing and add nothing
 pub bare : LinesWithoutRowsAreBare

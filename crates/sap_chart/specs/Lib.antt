@@ -1,8 +1,6 @@
+pub mod Beginnings
 pub mod Rows
-pub mod ChartText
+pub mod Lifelines
 pub mod Chart
-pub mod Titles
 pub mod ChartLaws
-pub mod WellFormed
-pub mod ChartExamples
 pub mod code

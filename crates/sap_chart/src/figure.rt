@@ -2,28 +2,8 @@
 ghost use Rattle.std.specs.Prelude.{◌≡◌};
 ghost use Rattle.sap_chart.specs.Rows.{figure_of};
 
+use sap_picture::Figure;
 use sap_runs::PStep;
-
-/// What is drawn of a line, with the threads in it by their numbers.
-#[derive(Clone, Copy)]
-pub enum Figure {
-    /// An arrow from a thread to the adversary.
-    Puts(u64),
-    /// An arrow from the adversary to a thread.
-    Takes(u64),
-    /// An arrow from one thread to another.
-    Meets(u64, u64),
-    /// A box at an event.
-    Shows(u64),
-    /// A mark at what a thread does with the store.
-    Stores(u64),
-    /// A mark at what it does with a lock.
-    Locks(u64),
-    /// A mark at what else it does.
-    Does(u64),
-    /// A mark at what the adversary does alone.
-    Makes,
-}
 
 /// The figure of a line; none where threads only begin or end.
 pub(crate) fn figure_of(step: &PStep) -> Option<Figure>
@@ -41,8 +21,7 @@ pub(crate) fn figure_of(step: &PStep) -> Option<Figure>
         PStep::Found(t) | PStep::Missing(t) => Some(Figure::Stores(*t)),
         PStep::Lock(t) | PStep::Unlock(t) => Some(Figure::Locks(*t)),
         PStep::Embedded(t, _, _) => Some(Figure::Does(*t)),
-        PStep::Name(_) | PStep::Public(_) | PStep::Apply(_, _) | PStep::Know(_) => Some(
-            Figure::Makes,
-        ),
+        PStep::Name(_) | PStep::Public(_) | PStep::Apply(_, _) => Some(Figure::Makes),
+        PStep::Know(_) => Some(Figure::Knows),
     }
 }

@@ -1,195 +1,293 @@
 //! The threads that are drawn, by their columns.
-ghost use Rattle.std.specs.Prelude.{◌≡◌, ◌<◌, ◌≤◌, ◌^◌, ◌++◌, IfOk, OnOk, codes, fold, length, map};
-ghost use Rattle.std.specs.List.{prefix_len};
-ghost use Rattle.sap_roles.specs.Casts.{IsScript, role_count};
-ghost use Rattle.sap_tell.specs.Stages.{Stage};
-ghost use Rattle.sap_tell.specs.ToldText.{thread_text};
-ghost use Rattle.sap_teller.specs.Telling.{IsOnStage};
-ghost use Rattle.sap_chart.specs.ChartText.{across, across_to, column_of, head_of, head_text, heads_text, opens_none, with_lifeline};
-ghost use Rattle.sap_chart.specs.code.Drawing.{IsHeadPushed, threads_in};
+ghost use Rattle.std.specs.Prelude.{◌≡◌, ℕ, ◌++◌, [], ◌∷◌, IfOk, OnOk, Some, false, length, option_map};
+ghost use Rattle.sap_roles.specs.Casts.{role_count};
+ghost use Rattle.sap_tell.specs.Stages.{Stage, part_view};
+ghost use Rattle.sap_tell.specs.ToldText.{number_text};
+ghost use Rattle.sap_teller.specs.Settings.{IsOnStage, IsSetting};
+ghost use Rattle.sap_chart.specs.Beginnings.{beginning_of, begun_in};
+ghost use Rattle.sap_chart.specs.Lifelines.{actor_of, began_text, by_text, column_of, has_actor, head_of, name_by, under_text, with_thread};
+ghost use Rattle.sap_chart.specs.code.Drawing.{AreColumns, KnowsThreads, threads_in, with_figure};
 
-use crate::figure::Figure;
-use crate::labels::{across, push_numbered, push_spelled, shortened};
-use indexmap::IndexMap;
+use crate::beginning::Beginning;
+use indexmap::{IndexMap, IndexSet};
+use sap_picture::{Actor, Figure, Head, push_numbered};
 use sap_players::RoleNumbers;
-use sap_roles::Script;
-use sap_tell::{ThreadPaths, push_thread};
-use sap_teller::part_of;
+use sap_runs::PStep;
+use sap_tell::{Part, ThreadPaths, push_role};
+use sap_teller::{Setting, part_of, push_one};
 use sap_terms::Mem;
 use sap_text::Text;
 use std::alloc::Global;
 
-// What a thread is called, and where it stands.
-fn name_of(
-    alloc: Global,
-    script: &Script,
-    numbers: &RoleNumbers,
-    paths: &ThreadPaths,
-    t: u64,
-) -> Result<Text, Mem>
-    requires script { IsScript script.now }
-    requires count { length numbers.now ≡ role_count script.now }
-    ensures { (s : Stage) → IsOnStage script.now numbers.now paths.now s → IfOk result (λ name. name ≡ thread_text s t) }
-{
-    let mut name = Text::new(alloc);
-    let part = part_of(script, numbers, paths.digits(t), t);
-    push_thread(&mut name, part, paths, t)?;
-    Ok(name)
+/// The threads that have a lifeline, with the lifelines in each role, and how all threads began.
+#[derive(Drop)]
+pub(crate) struct Lifelines {
+    pub heads: IndexMap<Actor, Head>,
+    pub threads: IndexSet<u64>,
+    pub begun: Vec<Beginning>,
 }
 
-// Gives the thread a lifeline, unless it has one.
-fn add(
-    alloc: Global,
-    lifelines: &mut IndexMap<u64, Text>,
-    script: &Script,
-    numbers: &RoleNumbers,
-    paths: &ThreadPaths,
-    t: u64,
-) -> Result<(), Mem>
-    requires script { IsScript script.now }
-    requires count { length numbers.now ≡ role_count script.now }
-    ensures { (s : Stage) → IsOnStage script.now numbers.now paths.now s
-        → OnOk result (lifelines.new.entries ≡ with_lifeline lifelines.old.entries (t, thread_text s t)) }
+/// The columns of the first and the second thread of a figure, 0 where there is none.
+#[derive(Clone, Copy, Drop)]
+pub(crate) struct Columns {
+    pub first: u64,
+    pub second: u64,
+}
+
+// A thread by its number.
+fn push_number(text: &mut Text, t: u64) -> Result<(), Mem>
+    ensures { OnOk result (text.new ≡ text.old ++ number_text t) }
 {
-    match lifelines.get_index_of(&t) {
-        Some(_) => Ok(()),
-        None => {
-            let name = name_of(alloc, script, numbers, paths, t)?;
-            lifelines.insert(t, name)?;
-            Ok(())
+    push_numbered(text, b"thread ", t)
+}
+
+// Which one of its role a thread is; without a role its number.
+fn push_name(text: &mut Text, part: Option<Part<'_>>, t: u64) -> Result<(), Mem>
+    ensures { OnOk result (text.new ≡ text.old ++ name_by (option_map part_view part.entry) t) }
+{
+    match part {
+        None => push_number(text, t),
+        Some(part) => push_role(text, part.role, part.number),
+    }
+}
+
+// How a thread began.
+fn push_beginning(text: &mut Text, b: &Beginning) -> Result<(), Mem>
+    ensures { OnOk result (text.new ≡ text.old ++ began_text (Some b.now)) }
+{
+    push_numbered(text, b", begun by thread ", b.by)?;
+    push_numbered(text, b" in line ", b.line)?;
+    text.push_bytes(b" of the run")
+}
+
+// The same, of a thread that began.
+fn push_began(text: &mut Text, b: Option<&Beginning>) -> Result<(), Mem>
+    ensures { OnOk result (text.new ≡ text.old ++ began_text (option_map (λ x. x.now) b)) }
+{
+    match b {
+        None => Ok(()),
+        Some(b) => push_beginning(text, b),
+    }
+}
+
+// Who began a thread.
+fn push_by(text: &mut Text, b: Option<&Beginning>) -> Result<(), Mem>
+    ensures { OnOk result (text.new ≡ text.old ++ by_text (option_map (λ x. x.now) b)) }
+{
+    match b {
+        None => Ok(()),
+        Some(b) => push_numbered(text, b"by thread ", b.by),
+    }
+}
+
+// What stands under a name.
+fn push_under(text: &mut Text, goes_on: bool, t: u64, b: Option<&Beginning>) -> Result<(), Mem>
+    ensures { OnOk result (text.new ≡ text.old ++ under_text goes_on t (option_map (λ x. x.now) b)) }
+{
+    if goes_on {
+        push_numbered(text, b"thread ", t)?;
+        text.push_bytes(b" goes on")
+    } else {
+        push_by(text, b)
+    }
+}
+
+impl Lifelines {
+    /// None, where thread 0 is there.
+    pub(crate) fn new(alloc: Global) -> Lifelines
+        ensures heads { result.heads.entries ≡ [] }
+        ensures threads { KnowsThreads result }
+        ensures begun { result.begun.items ≡ [] }
+    {
+        Lifelines {
+            heads: IndexMap::new(alloc),
+            threads: IndexSet::new(alloc),
+            begun: Vec::new(alloc),
         }
     }
-}
 
-// The same for two threads.
-fn add_both(
-    alloc: Global,
-    lifelines: &mut IndexMap<u64, Text>,
-    script: &Script,
-    numbers: &RoleNumbers,
-    paths: &ThreadPaths,
-    s: u64,
-    t: u64,
-) -> Result<(), Mem>
-    requires script { IsScript script.now }
-    requires count { length numbers.now ≡ role_count script.now }
-    ensures { (a : Stage) → IsOnStage script.now numbers.now paths.now a
-        → OnOk result (lifelines.new.entries
-        ≡ with_lifeline (with_lifeline lifelines.old.entries (s, thread_text a s)) (t, thread_text a t)) }
-{
-    add(alloc, lifelines, script, numbers, paths, s)?;
-    add(alloc, lifelines, script, numbers, paths, t)
-}
-
-/// Gives each thread of a figure a lifeline, unless it has one, named by what it is called and where it stands.
-pub(crate) fn add_threads(
-    alloc: Global,
-    lifelines: &mut IndexMap<u64, Text>,
-    script: &Script,
-    numbers: &RoleNumbers,
-    paths: &ThreadPaths,
-    figure: Option<Figure>,
-) -> Result<(), Mem>
-    requires script { IsScript script.now }
-    requires count { length numbers.now ≡ role_count script.now }
-    ensures { (s : Stage) → IsOnStage script.now numbers.now paths.now s
-        → OnOk result (lifelines.new.entries ≡ fold with_lifeline lifelines.old.entries (threads_in s figure)) }
-{
-    match figure {
-        None | Some(Figure::Makes) => Ok(()),
-        Some(Figure::Meets(s, t)) => add_both(alloc, lifelines, script, numbers, paths, s, t),
-        Some(Figure::Puts(t)) | Some(Figure::Takes(t)) => add(
-            alloc, lifelines, script, numbers, paths, t,
-        ),
-        Some(Figure::Shows(t)) | Some(Figure::Stores(t)) => add(
-            alloc, lifelines, script, numbers, paths, t,
-        ),
-        Some(Figure::Locks(t)) | Some(Figure::Does(t)) => add(
-            alloc, lifelines, script, numbers, paths, t,
-        ),
+    // How a thread began.
+    fn beginning(&self, t: u64) -> Option<&Beginning>
+        ensures { option_map (λ x. x.now) result ≡ beginning_of self.now.begun.items t }
+    {
+        match t.checked_sub(1) {
+            None => None,
+            Some(k) => self.begun.get(k as usize),
+        }
     }
-}
 
-// The column of a thread.
-fn column(lifelines: &IndexMap<u64, Text>, t: u64) -> u64
-    ensures { result ≡ column_of lifelines.now.entries t }
-{
-    let count = lifelines.len();
-    match lifelines.get_index_of(&t) {
-        Some(k) => k as u64 + 1,
-        None => count as u64 + 1,
+    // What is written at the lifeline of a thread.
+    fn head(
+        &self,
+        alloc: Global,
+        setting: &Setting<'_>,
+        numbers: &RoleNumbers,
+        paths: &ThreadPaths,
+        t: u64,
+    ) -> Result<Head, Mem>
+        requires setting { IsSetting setting.now }
+        requires count { length numbers.now ≡ role_count setting.now.script.now }
+        requires threads { KnowsThreads self.now }
+        ensures { (count : ℕ) (s : Stage) → IsOnStage setting.now numbers.now paths.now count s
+            → IfOk result (λ h. h ≡ head_of self.now.heads.entries s self.now.begun.items t) }
+    {
+        let part = part_of(setting.script, numbers, paths.digits(t), t);
+        let mut name = Text::new(alloc);
+        let mut title = Text::new(alloc);
+        let mut under = Text::new(alloc);
+        push_name(&mut name, part, t)?;
+        push_one(&mut title, alloc, setting, numbers, paths, t)?;
+        push_began(&mut title, self.beginning(t))?;
+        push_under(&mut under, self.threads.contains(&t), t, self.beginning(t))?;
+        Ok(Head { name, title, under })
     }
-}
 
-/// How far right a thread's lifeline stands.
-pub(crate) fn across_to(lifelines: &IndexMap<u64, Text>, t: u64) -> Result<u64, Mem>
-    ensures { IfOk result (λ x. x ≡ across_to lifelines.now.entries t) }
-{
-    across(column(lifelines, t))
-}
-
-// How many bytes stand before the first parenthesis.
-fn opening(name: &[u8]) -> usize
-    ensures is { result ≡ prefix_len opens_none name.now }
-    ensures within { result ≤ length name.now }
-{
-    name.iter().take_while(|b| **b != b'(').count()
-}
-
-// What stands of a name before a blank and a parenthesis, or all of it.
-fn head_of(name: &[u8]) -> &[u8]
-    ensures { result.now ≡ head_of name.now }
-{
-    let count = opening(name);
-    if count < name.len() {
-        &name[..count.saturating_sub(1)]
-    } else {
-        name
+    // Puts a lifeline last.
+    fn push(&mut self, actor: Actor, head: Head) -> Result<(), Mem>
+        requires threads { KnowsThreads self.old }
+        requires absent { has_actor self.old.heads.entries actor ≡ false }
+        ensures heads { OnOk result (self.new.heads.entries ≡ self.old.heads.entries ++ (actor, head) ∷ []) }
+        ensures threads { OnOk result (KnowsThreads self.new) }
+        ensures begun { OnOk result (self.new.begun ≡ self.old.begun) }
+    {
+        self.threads.insert(actor.thread)?;
+        self.heads.insert(actor, head)?;
+        Ok(())
     }
-}
 
-/// A lifeline with the head of its name above it.
-pub(crate) fn push_head(alloc: Global, text: &mut Text, column: u64, name: &[u8]) -> Result<(), Mem>
-    ensures { OnOk result (text.new ≡ text.old ++ head_text column name.now) }
-{
-    let x = across(column)?;
-    let short = shortened(alloc, 18, head_of(name))?;
-    push_numbered(text, b"<g transform='translate(", x)?;
-    push_spelled(text, b",0)'><title>", name)?;
-    push_spelled(
-        text,
-        b"</title><line y1='32' y2='100%' stroke='black' stroke-dasharray='2,4'/><text y='24' text-anchor='middle'>",
-        short.as_bytes(),
-    )?;
-    text.push_bytes(b"</text></g>\n")
-}
-
-// The lifeline of this index.
-fn push_nth(
-    alloc: Global,
-    text: &mut Text,
-    lifelines: &IndexMap<u64, Text>,
-    k: usize,
-) -> Result<(), Mem>
-    requires { k < 2 ^ 63 }
-    ensures { OnOk result (IsHeadPushed lifelines.now.entries k text.old text.new) }
-{
-    match lifelines.get_index(k) {
-        None => Ok(()),
-        Some((_, name)) => push_head(alloc, text, k as u64 + 1, name.as_bytes()),
+    // Gives the thread a lifeline in its role, unless it has one, and answers with its column.
+    fn add(
+        &mut self,
+        alloc: Global,
+        setting: &Setting<'_>,
+        numbers: &RoleNumbers,
+        paths: &ThreadPaths,
+        t: u64,
+    ) -> Result<u64, Mem>
+        requires setting { IsSetting setting.now }
+        requires count { length numbers.now ≡ role_count setting.now.script.now }
+        requires threads { KnowsThreads self.old }
+        ensures lifelines { (count : ℕ) (s : Stage) → IsOnStage setting.now numbers.now paths.now count s
+            → OnOk result (self.new.heads.entries ≡ with_thread s self.old.begun.items self.old.heads.entries t) }
+        ensures column { (count : ℕ) (s : Stage) → IsOnStage setting.now numbers.now paths.now count s
+            → IfOk result (λ c. c ≡ column_of self.new.heads.entries (actor_of s t)) }
+        ensures threads { OnOk result (KnowsThreads self.new) }
+        ensures begun { OnOk result (self.new.begun ≡ self.old.begun) }
+    {
+        let actor = Actor {
+            thread: t,
+            role: setting.script.role(paths.digits(t)),
+        };
+        let count = self.heads.len();
+        match self.heads.get_index_of(&actor) {
+            Some(k) => Ok(k as u64 + 1),
+            None => {
+                let head = self.head(alloc, setting, numbers, paths, t)?;
+                self.push(actor, head)?;
+                Ok(count as u64 + 1)
+            }
+        }
     }
-}
 
-/// The lifelines of threads, each with its name.
-pub(crate) fn push_heads(
-    alloc: Global,
-    text: &mut Text,
-    lifelines: &IndexMap<u64, Text>,
-) -> Result<(), Mem>
-    ensures { OnOk result (text.new ≡ text.old ++ heads_text 1 lifelines.now.entries) }
-{
-    for k in 0..lifelines.len() {
-        push_nth(alloc, text, lifelines, k)?;
+    // The same for two threads.
+    fn add_both(
+        &mut self,
+        alloc: Global,
+        setting: &Setting<'_>,
+        numbers: &RoleNumbers,
+        paths: &ThreadPaths,
+        s: u64,
+        t: u64,
+    ) -> Result<Columns, Mem>
+        requires setting { IsSetting setting.now }
+        requires count { length numbers.now ≡ role_count setting.now.script.now }
+        requires threads { KnowsThreads self.old }
+        ensures lifelines { (count : ℕ) (a : Stage) → IsOnStage setting.now numbers.now paths.now count a
+            → OnOk result (self.new.heads.entries
+            ≡ with_thread a self.old.begun.items (with_thread a self.old.begun.items self.old.heads.entries s) t) }
+        ensures columns { (count : ℕ) (a : Stage) → IsOnStage setting.now numbers.now paths.now count a
+            → IfOk result (AreColumns self.new.heads.entries a (s ∷ t ∷ [])) }
+        ensures threads { OnOk result (KnowsThreads self.new) }
+        ensures begun { OnOk result (self.new.begun ≡ self.old.begun) }
+    {
+        let first = self.add(alloc, setting, numbers, paths, s)?;
+        let second = self.add(alloc, setting, numbers, paths, t)?;
+        Ok(Columns { first, second })
     }
-    Ok(())
+
+    // The same for one.
+    fn add_one(
+        &mut self,
+        alloc: Global,
+        setting: &Setting<'_>,
+        numbers: &RoleNumbers,
+        paths: &ThreadPaths,
+        t: u64,
+    ) -> Result<Columns, Mem>
+        requires setting { IsSetting setting.now }
+        requires count { length numbers.now ≡ role_count setting.now.script.now }
+        requires threads { KnowsThreads self.old }
+        ensures lifelines { (count : ℕ) (a : Stage) → IsOnStage setting.now numbers.now paths.now count a
+            → OnOk result (self.new.heads.entries ≡ with_thread a self.old.begun.items self.old.heads.entries t) }
+        ensures columns { (count : ℕ) (a : Stage) → IsOnStage setting.now numbers.now paths.now count a
+            → IfOk result (AreColumns self.new.heads.entries a (t ∷ [])) }
+        ensures threads { OnOk result (KnowsThreads self.new) }
+        ensures begun { OnOk result (self.new.begun ≡ self.old.begun) }
+    {
+        let first = self.add(alloc, setting, numbers, paths, t)?;
+        Ok(Columns { first, second: 0 })
+    }
+
+    /// Gives each thread of a figure a lifeline in its role, unless it has one, and answers with their columns.
+    pub(crate) fn add_threads(
+        &mut self,
+        alloc: Global,
+        setting: &Setting<'_>,
+        numbers: &RoleNumbers,
+        paths: &ThreadPaths,
+        figure: Option<Figure>,
+    ) -> Result<Columns, Mem>
+        requires setting { IsSetting setting.now }
+        requires count { length numbers.now ≡ role_count setting.now.script.now }
+        requires threads { KnowsThreads self.old }
+        ensures lifelines { (count : ℕ) (a : Stage) → IsOnStage setting.now numbers.now paths.now count a
+            → OnOk result (self.new.heads.entries ≡ with_figure a self.old.begun.items self.old.heads.entries figure) }
+        ensures columns { (count : ℕ) (a : Stage) → IsOnStage setting.now numbers.now paths.now count a
+            → IfOk result (AreColumns self.new.heads.entries a (threads_in figure)) }
+        ensures threads { OnOk result (KnowsThreads self.new) }
+        ensures begun { OnOk result (self.new.begun ≡ self.old.begun) }
+    {
+        match figure {
+            None | Some(Figure::Makes) | Some(Figure::Knows) => Ok(Columns {
+                first: 0,
+                second: 0,
+            }),
+            Some(Figure::Meets(s, t)) => self.add_both(alloc, setting, numbers, paths, s, t),
+            Some(Figure::Puts(t)) | Some(Figure::Takes(t)) => self.add_one(
+                alloc, setting, numbers, paths, t,
+            ),
+            Some(Figure::Shows(t)) | Some(Figure::Stores(t)) => self.add_one(
+                alloc, setting, numbers, paths, t,
+            ),
+            Some(Figure::Locks(t)) | Some(Figure::Does(t)) => self.add_one(
+                alloc, setting, numbers, paths, t,
+            ),
+        }
+    }
+
+    /// Notes the thread that the line of this number begins, if it begins one.
+    pub(crate) fn note(&mut self, number: u64, step: &PStep) -> Result<(), Mem>
+        ensures heads { OnOk result (self.new.heads ≡ self.old.heads) }
+        ensures threads { OnOk result (self.new.threads ≡ self.old.threads) }
+        ensures begun { OnOk result (self.new.begun.items ≡ self.old.begun.items ++ begun_in number step.now) }
+    {
+        match step {
+            PStep::Par(t) | PStep::Rep(t) => self.begun.push(Beginning {
+                by: *t,
+                line: number,
+            })?,
+            _ => {}
+        }
+        Ok(())
+    }
 }

@@ -11,6 +11,7 @@ pub mod Taken
 pub mod SeenMessages
 pub mod Stopped
 pub mod NeverStops
+pub mod FileScenes
 pub mod JudgedAlike
 pub mod OneConversion
 pub mod Written

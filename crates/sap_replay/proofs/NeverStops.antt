@@ -13,8 +13,8 @@ use Rattle.sap_runs.specs.declared.process_step.PStep.{PStep}
 use Rattle.sap_runs.specs.declared.rule_step.RStep.{RStep}
 use Rattle.sap_terms.specs.Signature.{Sig}
 use Rattle.sap_replay.specs.RunRefusals.{IsIllegal, of_process, IsLineOf}
-use Rattle.sap_players.specs.Casts.{Cast}
-use Rattle.sap_replay.specs.FileRoles.{HasCast}
+use Rattle.sap_tell.specs.Scenes.{Scene}
+use Rattle.sap_replay.specs.FileScenes.{HasScene}
 use Rattle.sap_replay.specs.ToldRuns.{AreLinesOf, IsTextOfLines}
 use Rattle.sap_replay.proofs.ProcessRuns.{Laws, never_refused}
 
@@ -30,7 +30,7 @@ module _ (laws : Laws) (annotated : (g : Sig) (p q : Proc) → IsReady g p → I
   never_stops line l = never_illegal l.why l.cause
 
 -- what is written of its lines is written of the run
-pub lines_written : (bytes : List ℕ) (f : FileContent) (Is : Cast → List PStep → List ℕ → Type 0) (cast : Cast) → HasCast bytes cast → (r : Run) (lines : List PStep) (o : Result (List ℕ) Refusal) → AreLinesOf f r lines → IfOk o (λ (text : List ℕ). Is cast lines text)
+pub lines_written : (bytes : List ℕ) (f : FileContent) (Is : Scene → List PStep → List ℕ → Type 0) (scene : Scene) → HasScene bytes scene → (r : Run) (lines : List PStep) (o : Result (List ℕ) Refusal) → AreLinesOf f r lines → IfOk o (λ (text : List ℕ). Is scene lines text)
     → IfOk o (λ (text : List ℕ). IsTextOfLines bytes f Is r text)
-lines_written bytes f Is cast roles r lines (Ok text) of_run written = record { cast = cast; roles = roles; lines = lines; of_run = of_run; written = written }
-lines_written bytes f Is cast roles r lines (Err e) of_run written = tt
+lines_written bytes f Is scene has r lines (Ok text) of_run written = record { scene = scene; in_file = has; lines = lines; of_run = of_run; written = written }
+lines_written bytes f Is scene has r lines (Err e) of_run written = tt

@@ -4,7 +4,7 @@ use Rattle.std.specs.Prelude.{◌↔◌}
 use Rattle.sap_chart.specs.ChartLaws.{DrawnRunsAreLegal}
 use Rattle.sap_formula.specs.Hide.{hide}
 use Rattle.sap_forward.specs.Converted.{IsShownByLines}
-use Rattle.sap_players.specs.Casts.{Cast}
+use Rattle.sap_tell.specs.Scenes.{Scene}
 use Rattle.sap_read.specs.Files.{FileContent, IsRunnable}
 use Rattle.sap_run_texts.specs.declared.run.Run.{Run}
 use Rattle.sap_run_texts.specs.declared.run.Run.TheVariants as run
@@ -29,14 +29,14 @@ pub record Laws : Type 0 where
   pub drawn : DrawnRunsAreLegal
 
 -- what is told is legal, and shows this
-told_shown : ToldRunsAreLegal → (f : FileContent) (cast : Cast) (lines : List PStep) (text : List ℕ) (t : IsToldAndJudged f cast lines text) → IsShownByLines f.signature f.process lines t.trace
-told_shown law f cast lines text t =
+told_shown : ToldRunsAreLegal → (f : FileContent) (scene : Scene) (lines : List PStep) (text : List ℕ) (t : IsToldAndJudged f scene lines text) → IsShownByLines f.signature f.process lines t.trace
+told_shown law f scene lines text t =
     let r = t.run in
-    record { config = r.config; entries = r.entries; marks = r.marks; legal = law f.signature f.process cast lines r.config r.entries t.trace r.marks t.draws t.told r.run }
+    record { config = r.config; entries = r.entries; marks = r.marks; legal = law f.signature f.process scene lines r.config r.entries t.trace r.marks t.draws t.told r.run }
 
-drawn_shown : DrawnRunsAreLegal → (f : FileContent) (cast : Cast) (lines : List PStep) (text : List ℕ) (t : IsDrawn f cast lines text) → IsShownByLines f.signature f.process lines t.trace
-drawn_shown law f cast lines text t =
-    let r = law f.signature f.process cast lines t.trace text t.chart in record { config = r.0; entries = r.1; marks = r.2; legal = r.3 }
+drawn_shown : DrawnRunsAreLegal → (f : FileContent) (scene : Scene) (lines : List PStep) (text : List ℕ) (t : IsDrawn f scene lines text) → IsShownByLines f.signature f.process lines t.trace
+drawn_shown law f scene lines text t =
+    let r = law f.signature f.process scene lines t.trace text t.chart in record { config = r.0; entries = r.1; marks = r.2; legal = r.3 }
 
 -- where the lines of a run are legal, it is seen
 seen_of : (f : FileContent) (r : Run) (lines : List PStep) (tr : Trace) → AreLinesOf f r lines → IsShownByLines f.signature f.process lines tr → (shown : Trace) × IsSeen f r shown
@@ -45,10 +45,10 @@ seen_of f _ _ tr (converted lines c) shown = (hide c.full, of_rules c.state c.fu
 
 -- a run that is told is seen
 pub told_is_seen : Laws → (bytes : List ℕ) (f : FileContent) (r : Run) (text : List ℕ) → IsTextOfLines bytes f (IsToldAndJudged f) r text → (shown : Trace) × IsSeen f r shown
-told_is_seen laws bytes f r text w = seen_of f r w.lines w.written.trace w.of_run (told_shown laws.told f w.cast w.lines text w.written)
+told_is_seen laws bytes f r text w = seen_of f r w.lines w.written.trace w.of_run (told_shown laws.told f w.scene w.lines text w.written)
 
 pub drawn_is_seen : Laws → (bytes : List ℕ) (f : FileContent) (r : Run) (text : List ℕ) → IsTextOfLines bytes f (IsDrawn f) r text → (shown : Trace) × IsSeen f r shown
-drawn_is_seen laws bytes f r text w = seen_of f r w.lines w.written.trace w.of_run (drawn_shown laws.drawn f w.cast w.lines text w.written)
+drawn_is_seen laws bytes f r text w = seen_of f r w.lines w.written.trace w.of_run (drawn_shown laws.drawn f w.scene w.lines text w.written)
 
 own_or_opposite : (f : FileContent) (r : Run) (lines : List PStep) → AreLinesOf f r lines → AreOwnOrOpposite f r lines
 own_or_opposite f _ _ (own lines) = told.own lines
@@ -62,10 +62,10 @@ judged_of alike f _ _ text runnable (told.opposite {rule_lines = rule_lines} lin
 pub told_says : Laws → AreAlike → (bytes : List ℕ) (f : FileContent) (r : Run) (text : List ℕ) → IsRunnable f → IsTextOfLines bytes f (IsToldAndJudged f) r text → IsToldOf bytes f r text
 told_says laws alike bytes f r text runnable w =
     let of_run = own_or_opposite f r w.lines w.of_run in
-    let seen = of_process (told_shown laws.told f w.cast w.lines text w.written) in
+    let seen = of_process (told_shown laws.told f w.scene w.lines text w.written) in
     record {
-      cast = w.cast;
-      roles = w.roles;
+      scene = w.scene;
+      in_file = w.in_file;
       lines = w.lines;
       of_run = of_run;
       written = w.written;
@@ -75,12 +75,12 @@ told_says laws alike bytes f r text runnable w =
 
 pub drawn_says : Laws → (bytes : List ℕ) (f : FileContent) (r : Run) (text : List ℕ) → IsTextOfLines bytes f (IsDrawn f) r text → IsDrawnOf bytes f r text
 drawn_says laws bytes f r text w = record {
-  cast = w.cast;
-  roles = w.roles;
+  scene = w.scene;
+  in_file = w.in_file;
   lines = w.lines;
   of_run = own_or_opposite f r w.lines w.of_run;
   written = w.written;
-  seen = of_process (drawn_shown laws.drawn f w.cast w.lines text w.written);
+  seen = of_process (drawn_shown laws.drawn f w.scene w.lines text w.written);
 }
 
 -- what stands behind an empty line

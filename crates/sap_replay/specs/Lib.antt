@@ -4,7 +4,7 @@ pub use Rattle.sap_refusals.specs.ShortFaultTexts
 pub mod Verdicts
 pub mod Replays
 pub mod RunRefusals
-pub mod FileRoles
+pub mod FileScenes
 pub mod ToldRuns
 pub mod ShortRuns
 pub mod JsonRuns

@@ -3,3 +3,4 @@ pub mod Checked
 pub mod Refused
 pub mod Filled
 pub mod Verdicts
+pub mod Sceneries

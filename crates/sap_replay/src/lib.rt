@@ -14,7 +14,7 @@ mod replay;
 mod role_laws;
 mod sample;
 mod sample_laws;
-mod script;
+mod scenery;
 mod sessions;
 mod task;
 mod telling;
@@ -36,7 +36,7 @@ pub use laws::{
 pub use opposite_laws::opposites_by_hand;
 pub use reading::{MOST_BYTES, accepted_file};
 pub use replay::replayed;
-pub use role_laws::files_have_one_cast;
+pub use role_laws::{files_have_one_cast, files_have_one_scene, lines_are_those_of_words};
 pub use sample::{sample_file, sample_run, sample_text};
 pub use sample_laws::{sample_is_legal, sample_is_read};
 pub use sessions::sessions_of;

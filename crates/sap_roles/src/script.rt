@@ -17,9 +17,9 @@ use std::alloc::Global;
 /// The definitions of a file, in order, with the index of their names, and its process.
 #[derive(Drop)]
 pub struct Script {
-    definitions: DefinitionList,
-    index: Index,
-    main: Box<Source>,
+    pub definitions: DefinitionList,
+    pub index: Index,
+    pub main: Box<Source>,
 }
 
 impl Script {
@@ -28,6 +28,7 @@ impl Script {
         requires order { AreInOrder [] (definitions defs) }
         requires uses { UsesOnly (defined (definitions defs)) (written main.value) }
         ensures script { IfOk result IsScript }
+        ensures parts { IfOk result (λ s. (s.definitions ≡ defs) × (s.main ≡ main)) }
         ensures cast { (ns : List ℕ) (behind : ℕ) (cast : Cast) → length ns ≡ length defs
             → IsCastOf (located_definitions defs ns) (located main.value) behind cast
             → IfOk result (λ s. IsCastOfScript s cast) }

@@ -261,6 +261,6 @@ pub threads_stand : ((p : Proc) (s t : Choice) → ((v : Var) → IsGround (s v)
     → ((p : Proc) → process_instance (λ v. variable v) p ≡ p)
     → ((g : Sig) (p : Proc) (c : Config) (tr : Trace) → HoldsBuiltins g → IsWellFormed g p → ProcessRun g (initial p) c tr → IsGroundConfig g c)
     → ProcessLinesAreRuns HasFewNodes → ThreadsStandAtTheirPaths
-threads_stand twice unchanged ground are_runs g p q cast ls c es tr marks ds text t builtins well told there =
+threads_stand twice unchanged ground are_runs g p q scene ls c es tr marks ds text t builtins well told there =
     stands twice unchanged p (thread_paths ls) c.threads
-    (run_stands twice unchanged p g (λ d ur h. ground g p d ur builtins well h) are_runs ls c es tr marks (legal g p cast ls c es tr marks ds text told)) t q there
+    (run_stands twice unchanged p g (λ d ur h. ground g p d ur builtins well h) are_runs ls c es tr marks (legal g p scene ls c es tr marks ds text told)) t q there

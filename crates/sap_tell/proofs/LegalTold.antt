@@ -18,12 +18,12 @@ use Rattle.sap_tell.specs.Draws.{draws_after}
 use Rattle.sap_tell.specs.Stages.{stage_of}
 use Rattle.sap_tell.specs.Told as told
 use Rattle.sap_tell.specs.Told.{IsDoing, IsToldLine, IsToldRun}
-use Rattle.sap_tell.specs.ToldText.{actor_text, seen_texts, line_text}
+use Rattle.sap_tell.specs.ToldText.{head_told, seen_texts, line_text}
 use Rattle.sap_tell.specs.ToldLaws.{ToldRunsAreLegal, LegalRunsAreTold}
 
 pub legal : ToldRunsAreLegal
-legal g p cast _ _ _ _ _ _ _ told.starts = runs.starts
-legal g p cast _ _ _ _ _ _ _ (told.further step inner label text h l t) = runs.further step inner label (legal g p cast _ _ _ _ _ _ _ h) l
+legal g p scene _ _ _ _ _ _ _ told.starts = runs.starts
+legal g p scene _ _ _ _ _ _ _ (told.further step inner label text h l t) = runs.further step inner label (legal g p scene _ _ _ _ _ _ _ h) l
 
 -- what a line does, and what comes of it
 abbrev pub SomeDoing : Sig → List Draw → Config → List Tree → PStep → List InnerAction → List Fact → List Tree → Type 0
@@ -60,13 +60,13 @@ module _ (forms : (g : Sig) (t : Tree) → (n : Tree) × IsNormalForm (equations
   doing ds (lines.knows k x e) = (_, _, told.knows k x e)
 
   pub some_text : LegalRunsAreTold
-  some_text g p cast _ _ _ _ _ runs.starts = ([], [], told.starts)
-  some_text g p cast _ _ _ _ _ (runs.further {lines = ls} {c = c} {es = es} {fs = fs} step inner label h l) =
-      let before = some_text g p cast _ _ _ _ _ h in
+  some_text g p scene _ _ _ _ _ runs.starts = ([], [], told.starts)
+  some_text g p scene _ _ _ _ _ (runs.further {lines = ls} {c = c} {es = es} {fs = fs} step inner label h l) =
+      let before = some_text g p scene _ _ _ _ _ h in
       let names = draws_after before.0 c step in
       let does = doing names l in (
         names,
         _,
-        told.further step inner label (line_text (length ls + 1) (actor_text (stage_of cast ls step) step) does.0 (seen_texts names label es fs ++ does.1)) before.2 l
+        told.further step inner label (line_text (length ls + 1) (head_told (stage_of scene ls step) step) does.0 (seen_texts names label es fs ++ does.1)) before.2 l
             (record { doing = does.0; outcomes = does.1; done = does.2; written = refl }),
       )

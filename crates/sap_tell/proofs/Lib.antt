@@ -6,3 +6,5 @@ pub mod OneText
 pub mod LinesByHand
 pub mod PlacesByHand
 pub mod Joined
+pub mod Differ
+pub mod TimesShown

@@ -15,7 +15,7 @@ use Rattle.sap_lines.specs.Answers.{MatchesExactly, ProcessLinesHaveOneOutcome, 
 use Rattle.sap_lines.specs.Lines as lines
 use Rattle.sap_lines.specs.Lines.{IsProcessLine, left_open}
 use Rattle.sap_lines.specs.Runs.{SmallProcessLinesAreLines, SmallProcessRunsAreLegal}
-use Rattle.sap_players.specs.Casts.{Cast}
+use Rattle.sap_tell.specs.Scenes.{Scene}
 use Rattle.sap_process.specs.Action as action
 use Rattle.sap_process.specs.Action.{Action}
 use Rattle.sap_process.specs.Configuration.{Config, Runs, becomes, leaves}
@@ -56,7 +56,7 @@ use Rattle.sap_tell.specs.Stages.{stage_of}
 use Rattle.sap_tell.specs.Told as told
 use Rattle.sap_tell.specs.Told.{IsDoing, IsToldLine, IsToldRun, bound_texts}
 use Rattle.sap_tell.specs.ToldLaws.{LinesDoOneThing, RunsAreToldByOneText}
-use Rattle.sap_tell.specs.ToldText.{actor_text, bound_text, call_text, term_told, seen_texts, line_text}
+use Rattle.sap_tell.specs.ToldText.{head_told, bound_text, call_text, term_told, seen_texts, line_text}
 use Rattle.sap_tell.proofs.LegalTold.{legal}
 
 -- the names with one more
@@ -440,11 +440,11 @@ record AreOneRun (c d : Config) (es fs : List Tree) (ds hs : List Draw) (text ot
   draws : ds ≡ hs
   texts : text ≡ other
 
-module _ (laws : Laws) (g : Sig) (p : Proc) (cast : Cast) (hold : HoldsBuiltins g) (ready : IsReady g p) where
-  exactly : {ls : List PStep} {c : Config} {es : List Tree} {tr : Trace} {ms : List Mark} {ds : List Draw} {text : List ℕ} → IsToldRun g p cast ls c es tr ms ds text → MatchesExactly g c es
-  exactly run = laws.exactly g p _ _ _ _ _ hold ready (laws.small_runs g p _ _ _ _ _ (legal g p cast _ _ _ _ _ _ _ run))
+module _ (laws : Laws) (g : Sig) (p : Proc) (scene : Scene) (hold : HoldsBuiltins g) (ready : IsReady g p) where
+  exactly : {ls : List PStep} {c : Config} {es : List Tree} {tr : Trace} {ms : List Mark} {ds : List Draw} {text : List ℕ} → IsToldRun g p scene ls c es tr ms ds text → MatchesExactly g c es
+  exactly run = laws.exactly g p _ _ _ _ _ hold ready (laws.small_runs g p _ _ _ _ _ (legal g p scene _ _ _ _ _ _ _ run))
 
-  one_run : {ls ks : List PStep} {c d : Config} {es fs : List Tree} {tr ur : Trace} {ms ns : List Mark} {ds hs : List Draw} {text other : List ℕ} → IsToldRun g p cast ls c es tr ms ds text → IsToldRun g p cast ks d fs ur ns hs other
+  one_run : {ls ks : List PStep} {c d : Config} {es fs : List Tree} {tr ur : Trace} {ms ns : List Mark} {ds hs : List Draw} {text other : List ℕ} → IsToldRun g p scene ls c es tr ms ds text → IsToldRun g p scene ks d fs ur ns hs other
       → ls ≡ ks → AreOneRun c d es fs ds hs text other
   one_run told.starts told.starts e = record { configs = refl; entries = refl; draws = refl; texts = refl }
   one_run told.starts (told.further {lines = ks} step inner label t h l x) e = absurd (never_empty ks step e)
@@ -469,12 +469,12 @@ module _ (laws : Laws) (g : Sig) (p : Proc) (cast : Cast) (hold : HoldsBuiltins 
       let doing = one_doing laws g hs c es (exactly h) step inner label c_next fs fs' x.doing x'.doing x.outcomes x'.outcomes l one.entries x.done done in
       let line_one : t ≡ t' =
       x.written
-      ∙ (λ i. line_text (length (ends.0 i) + 1) (actor_text (stage_of cast (ends.0 i) (ends.1 i)) (ends.1 i)) (doing.doing i) (seen_texts (names i) (one.labels i) (before.entries i) (one.entries i) ++ doing.outcomes i))
+      ∙ (λ i. line_text (length (ends.0 i) + 1) (head_told (stage_of scene (ends.0 i) (ends.1 i)) (ends.1 i)) (doing.doing i) (seen_texts (names i) (one.labels i) (before.entries i) (one.entries i) ++ doing.outcomes i))
       ∙ sym x'.written in
       record { configs = one.configurations; entries = one.entries; draws = names; texts = λ i. before.texts i ++ (line_one i ++ 10 ∷ []) }
 
 pub one_text : Laws → RunsAreToldByOneText
-one_text laws g p cast ls c d es fs tr ur ms ns ds hs text other hold ready x y = let r = one_run laws g p cast hold ready x y refl in (r.draws, r.texts)
+one_text laws g p scene ls c d es fs tr ur ms ns ds hs text other hold ready x y = let r = one_run laws g p scene hold ready x y refl in (r.draws, r.texts)
 
 pub one_thing : Laws → LinesDoOneThing
 one_thing laws g ds c d es fs step inner label doing other outcomes others exact line x y =

@@ -1,7 +1,9 @@
 pub mod Draws
 pub mod Escaped
 pub mod ThreadPaths
+pub mod TimeLines
 pub mod ThreadPlaces
+pub mod Scenes
 pub mod Stages
 pub mod ToldText
 pub mod Said

@@ -1,11 +1,12 @@
--- Who acts in a run: which role each thread has where it stands, and which threads did something in it.
-use Rattle.std.specs.Prelude.{ℕ, List, [], ◌∷◌, ◌++◌, Option, Some, None, option_and_then, option_map, slice_index_or}
+-- Who acts in a run: which role each thread has where it stands, and which threads did something in it; and on which line of the file.
+use Rattle.std.specs.Prelude.{ℕ, List, [], ◌∷◌, ◌++◌, length, Option, Some, None, option_and_then, option_map, slice_get, slice_index_or}
 use Rattle.sap_lines.specs.Faults.{thread_of}
 use Rattle.sap_players.specs.Casts.{Cast}
 use Rattle.sap_players.specs.Numbers.{Player, role_number}
 use Rattle.sap_runs.specs.declared.process_step.PStep.{PStep}
 use Rattle.sap_runs.specs.declared.process_step.PStep.TheVariants as line
 use Rattle.sap_tell.specs.declared.called.Part.{Part}
+use Rattle.sap_tell.specs.Scenes.{Scene}
 use Rattle.sap_tell.specs.ThreadPaths.{path_of, paths_after, thread_paths}
 
 -- the threads that do something in a line, else than begin others or end, the sender first
@@ -38,16 +39,24 @@ players_from cast paths (s ∷ ss) = players_of cast paths (doers s) ++ players_
 abbrev pub players : Cast → List PStep → List Player
 players cast lines = players_from cast ([] ∷ []) lines
 
--- by what the threads of a line are called: the roles of the process, who did something in them up to its end, and where threads stand
--- before it
+-- by what a line tells who acts: the roles of the process, and on which lines of the file places stand; the line of a run of rules from
+-- which this one comes, if it comes from one; who did something in which role up to its end, and where threads stand before it
 pub record Stage : Type 0 where
   pub cast : Cast
+  pub line_at : List ℕ → Option ℕ
+  pub step : Option ℕ
   pub played : List Player
   pub paths : List (List ℕ)
 
--- for a line behind these
-abbrev pub stage_of : Cast → List PStep → PStep → Stage
-stage_of cast lines step = record { cast = cast; played = players cast (lines ++ step ∷ []); paths = thread_paths lines }
+-- for a line behind these: behind so many it comes from the next of the lines of rules
+abbrev pub stage_of : Scene → List PStep → PStep → Stage
+stage_of scene lines step = record {
+  cast = scene.cast;
+  line_at = scene.line_at;
+  step = slice_get scene.steps (length lines);
+  played = players scene.cast (lines ++ step ∷ []);
+  paths = thread_paths lines;
+}
 
 -- the name of the role that a thread has at the end of a path, and which one of it the thread is, if it has one there and did something
 -- in it

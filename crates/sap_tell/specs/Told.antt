@@ -5,7 +5,6 @@ use Rattle.sap_called.specs.Names.{Draw}
 use Rattle.sap_grammar.specs.FactText.{facts_text, arrow_text}
 use Rattle.sap_grammar.specs.TermText.{variable_text}
 use Rattle.sap_lines.specs.Lines.{IsProcessLine}
-use Rattle.sap_players.specs.Casts.{Cast}
 use Rattle.sap_process.specs.Action as action
 use Rattle.sap_process.specs.Configuration.{Config, Runs, initial}
 use Rattle.sap_process.specs.Proc as whole
@@ -33,8 +32,9 @@ use Rattle.sap_terms.specs.declared.fact.Fact.{Fact}
 use Rattle.sap_terms.specs.declared.var.Var.{Var}
 use Rattle.sap_tell.specs.Draws.{draws_after}
 use Rattle.sap_tell.specs.Said.{applied_text, said_event, said_if, said_lookup, said_out, said_word, taken_on}
+use Rattle.sap_tell.specs.Scenes.{Scene}
 use Rattle.sap_tell.specs.Stages.{stage_of}
-use Rattle.sap_tell.specs.ToldText.{actor_text, call_text, term_told, bound_text, begins_text, ends_text, held_text, free_text, seen_texts, line_text}
+use Rattle.sap_tell.specs.ToldText.{call_text, term_told, bound_text, begins_text, ends_text, head_told, held_text, free_text, seen_texts, line_text}
 
 -- each of these variables once, with what the choice gives it
 abbrev pub bound_texts : List Draw → Choice → List Var → List (List ℕ)
@@ -124,26 +124,27 @@ pub data IsDoing (g : Sig) (ds : List Draw) (c : Config) (es : List Tree)
   knows : {label : List Fact} (k : ℕ) (x : Tree) → slice_get es k ≡ Some x
       → IsDoing g ds c es (line.Know k) [] label es (term_told ds x) []
 
--- the text tells this line, which has this number, where this is told of who acts in it, and these names were drawn, that of the line
+-- the text tells this line, which has this number and this head, which says who acts in it, where these names were drawn, that of the line
 -- with them
-pub record IsToldLine (g : Sig) (number : ℕ) (who : List ℕ) (ds : List Draw) (c : Config) (es : List Tree)
+pub record IsToldLine (g : Sig) (number : ℕ) (head : List ℕ) (ds : List Draw) (c : Config) (es : List Tree)
     (step : PStep) (inner : List InnerAction) (label : List Fact) (fs : List Tree)
     (text : List ℕ) : Type 0 where
   pub doing : List ℕ
   pub outcomes : List (List ℕ)
   pub done : IsDoing g ds c es step inner label fs doing outcomes
   pub written : text
-      ≡ line_text number who doing (seen_texts ds label es fs ++ outcomes)
+      ≡ line_text number head doing (seen_texts ds label es fs ++ outcomes)
 
--- The lines are a legal run of the process, which has these roles, within the limit, which leads to this configuration with these entries,
--- shows this, and draws these names, and the text tells each of them in turn, numbered from 1.
-pub data IsToldRun (g : Sig) (p : Proc) (cast : Cast)
+-- The lines are a legal run of the process, within the limit, which leads to this configuration with these entries, shows this, and draws
+-- these names, and the text tells each of them in turn, numbered from 1, by this scene: by its roles, on its lines of the file, and behind
+-- the number the line of a run of rules from which it comes, the first of them at the first line, and so on, as long as there is one.
+pub data IsToldRun (g : Sig) (p : Proc) (scene : Scene)
     : List PStep → Config → List Tree → Trace → List Mark → List Draw → List ℕ → Type 0 where
-  starts : IsToldRun g p cast [] (initial p) [] [] [] [] []
+  starts : IsToldRun g p scene [] (initial p) [] [] [] [] []
   further : {lines : List PStep} {c d : Config} {es fs : List Tree} {tr : Trace} {marks : List Mark}
       {ds : List Draw} {text : List ℕ} (step : PStep) (inner : List InnerAction) (label : List Fact)
-      (told : List ℕ) → IsToldRun g p cast lines c es tr marks ds text
+      (told : List ℕ) → IsToldRun g p scene lines c es tr marks ds text
       → IsProcessLine g HasFewNodes c es step inner label d fs
-      → IsToldLine g (length lines + 1) (actor_text (stage_of cast lines step) step) (draws_after ds c step) c es step inner label fs told
-      → IsToldRun g p cast (lines ++ step ∷ []) d fs (tr ++ shown label)
+      → IsToldLine g (length lines + 1) (head_told (stage_of scene lines step) step) (draws_after ds c step) c es step inner label fs told
+      → IsToldRun g p scene (lines ++ step ∷ []) d fs (tr ++ shown label)
       (marks ++ marks_of inner label) (draws_after ds c step) (text ++ (told ++ 10 ∷ []))

@@ -1,5 +1,5 @@
 -- Lines of a run of the example of the key server, to see by hand what is told of them.
-use Rattle.std.specs.Prelude.{ℕ, zero, suc, codes, List, [], ◌∷◌, None, Some, if◌then◌else◌}
+use Rattle.std.specs.Prelude.{ℕ, zero, suc, codes, List, [], ◌∷◌, Option, None, Some, if◌then◌else◌}
 use Rattle.std.specs.Str.{bytes_eq}
 use Rattle.sap_called.specs.Names.{Draw, draw}
 use Rattle.sap_players.specs.Casts.{Cast}
@@ -16,8 +16,9 @@ use Rattle.sap_terms.specs.declared.var.Sort.TheVariants.{Msg, Fresh, Pub}
 use Rattle.sap_terms.specs.declared.var.Var.{Var}
 use Rattle.sap_process.specs.Action as action
 use Rattle.sap_process.specs.Proc.{Proc, nil, parallel, act}
+use Rattle.sap_tell.specs.Scenes.{Scene}
 use Rattle.sap_tell.specs.Stages.{Stage, stage_of}
-use Rattle.sap_tell.specs.ToldText.{actor_text}
+use Rattle.sap_tell.specs.ToldText.{actor_text, head_told}
 
 -- the lines of the run up to its first event
 abbrev pub first_lines : List PStep
@@ -31,15 +32,31 @@ first_paths = (1 ∷ []) ∷ (2 ∷ []) ∷ (1 ∷ 1 ∷ 1 ∷ []) ∷ []
 abbrev pub no_roles : Cast
 no_roles = record { names = []; at = λ path. None }
 
+-- whose places stand on no line of a file
+abbrev pub no_lines : List ℕ → Option ℕ
+no_lines path = None
+
+-- and whose lines come from no run of rules
+abbrev pub by_roles : Cast → Scene
+by_roles cast = record { cast = cast; line_at = no_lines; steps = [] }
+
 abbrev pub first_stage : Stage
-first_stage = record { cast = no_roles; played = []; paths = first_paths }
+first_stage = record { cast = no_roles; line_at = no_lines; step = None; played = []; paths = first_paths }
 
 -- what is told there of who acts in a line, and before the first line of such a process
 abbrev pub who : PStep → List ℕ
 who step = actor_text first_stage step
 
 abbrev pub at_root : PStep → List ℕ
-at_root step = actor_text (stage_of no_roles [] step) step
+at_root step = head_told (stage_of (by_roles no_roles) [] step) step
+
+-- in a file where the root stands on line 3, of lines that come from the fifth and the seventh of rules
+abbrev pub root_line : List ℕ → Option ℕ
+root_line [] = Some 3
+root_line (d ∷ path) = None
+
+abbrev pub root_on_line : Scene
+root_on_line = record { cast = no_roles; line_at = root_line; steps = 5 ∷ 7 ∷ [] }
 
 -- in a process with the roles Server, at 2, and Maker, at 111
 abbrev pub two_roles : Cast
@@ -50,10 +67,18 @@ two_roles = record {
 
 -- what is told of who acts in a line behind these first ones, and where these threads did something in these roles
 abbrev pub who_behind : PStep → List ℕ
-who_behind step = actor_text (stage_of two_roles first_lines step) step
+who_behind step = head_told (stage_of (by_roles two_roles) first_lines step) step
 
 abbrev pub who_where : List Player → PStep → List ℕ
-who_where played step = actor_text (record { cast = two_roles; played = played; paths = first_paths }) step
+who_where played step = actor_text (record { cast = two_roles; line_at = no_lines; step = None; played = played; paths = first_paths }) step
+
+-- in a file where 2 stands on line 4, and 111 on line 12
+abbrev pub two_places : List ℕ → Option ℕ
+two_places path = if bytes_eq path (2 ∷ []) then Some 4 else if bytes_eq path (1 ∷ 1 ∷ 1 ∷ []) then Some 12 else None
+
+-- the head of a line behind these first ones there, where the lines come from these of a run of rules
+abbrev pub head_behind : List ℕ → PStep → List ℕ
+head_behind steps step = head_told (stage_of (record { cast = two_roles; line_at = two_places; steps = steps }) first_lines step) step
 
 -- the name that is drawn there, by the word of its variable
 abbrev pub first_names : List Draw

@@ -4,7 +4,6 @@ use Rattle.sap_called.specs.Names.{Draw}
 use Rattle.sap_lines.specs.Answers.{MatchesExactly}
 use Rattle.sap_lines.specs.Lines.{IsProcessLine}
 use Rattle.sap_lines.specs.Runs.{IsLegalProcessRun}
-use Rattle.sap_players.specs.Casts.{Cast}
 use Rattle.sap_process.specs.Configuration.{Config, Runs}
 use Rattle.sap_process.specs.Flaws.{IsWellFormed}
 use Rattle.sap_process.specs.Proc.{Proc}
@@ -17,31 +16,32 @@ use Rattle.sap_terms.specs.Signature.{Sig, HoldsBuiltins}
 use Rattle.sap_terms.specs.Trace.{Trace}
 use Rattle.sap_terms.specs.Tree.{Tree}
 use Rattle.sap_terms.specs.declared.fact.Fact.{Fact}
+use Rattle.sap_tell.specs.Scenes.{Scene}
 use Rattle.sap_tell.specs.ThreadPaths.{path_of, thread_paths}
 use Rattle.sap_tell.specs.ThreadPlaces.{IsInstanceAt}
 use Rattle.sap_tell.specs.Told.{IsDoing, IsToldRun}
 
--- whatever roles it has, what is told as a run of a process is a legal run of it within the limit, which leads there and shows this
+-- by whatever scene, what is told as a run of a process is a legal run of it within the limit, which leads there and shows this
 abbrev pub ToldRunsAreLegal : Type 0
 ToldRunsAreLegal =
-    (g : Sig) (p : Proc) (cast : Cast) (lines : List PStep) (c : Config) (es : List Tree) (tr : Trace)
-    (marks : List Mark) (ds : List Draw) (text : List ℕ) → IsToldRun g p cast lines c es tr marks ds text
+    (g : Sig) (p : Proc) (scene : Scene) (lines : List PStep) (c : Config) (es : List Tree) (tr : Trace)
+    (marks : List Mark) (ds : List Draw) (text : List ℕ) → IsToldRun g p scene lines c es tr marks ds text
     → IsLegalProcessRun g HasFewNodes p lines c es tr marks
 
--- each legal run of a process within the limit is told by some text, whatever roles it has
+-- each legal run of a process within the limit is told by some text, by whatever scene
 abbrev pub LegalRunsAreTold : Type 0
 LegalRunsAreTold =
-    (g : Sig) (p : Proc) (cast : Cast) (lines : List PStep) (c : Config) (es : List Tree) (tr : Trace)
+    (g : Sig) (p : Proc) (scene : Scene) (lines : List PStep) (c : Config) (es : List Tree) (tr : Trace)
     (marks : List Mark) → IsLegalProcessRun g HasFewNodes p lines c es tr marks
-    → (ds : List Draw) × (text : List ℕ) × IsToldRun g p cast lines c es tr marks ds text
+    → (ds : List Draw) × (text : List ℕ) × IsToldRun g p scene lines c es tr marks ds text
 
--- lines of a ready process that has these roles draw the same names and are told by one text, wherever they are said to lead and whatever to show
+-- by one scene lines of a ready process draw the same names and are told by one text, wherever they are said to lead and whatever to show
 abbrev pub RunsAreToldByOneText : Type 0
 RunsAreToldByOneText =
-    (g : Sig) (p : Proc) (cast : Cast) (lines : List PStep) (c d : Config) (es fs : List Tree) (tr ur : Trace)
+    (g : Sig) (p : Proc) (scene : Scene) (lines : List PStep) (c d : Config) (es fs : List Tree) (tr ur : Trace)
     (marks others : List Mark) (ds hs : List Draw) (text other : List ℕ) → HoldsBuiltins g
-    → IsReady g p → IsToldRun g p cast lines c es tr marks ds text
-    → IsToldRun g p cast lines d fs ur others hs other → (ds ≡ hs) × (text ≡ other)
+    → IsReady g p → IsToldRun g p scene lines c es tr marks ds text
+    → IsToldRun g p scene lines d fs ur others hs other → (ds ≡ hs) × (text ≡ other)
 
 -- what a possible line does, and what comes of it beside what is shown and known, is one, where what lines match is matched exactly
 abbrev pub LinesDoOneThing : Type 0
@@ -55,7 +55,7 @@ LinesDoOneThing =
 -- behind told lines of a well-formed process each running thread is what stands at its path, with some variables replaced
 abbrev pub ThreadsStandAtTheirPaths : Type 0
 ThreadsStandAtTheirPaths =
-    (g : Sig) (p q : Proc) (cast : Cast) (lines : List PStep) (c : Config) (es : List Tree) (tr : Trace)
+    (g : Sig) (p q : Proc) (scene : Scene) (lines : List PStep) (c : Config) (es : List Tree) (tr : Trace)
     (marks : List Mark) (ds : List Draw) (text : List ℕ) (t : ℕ) → HoldsBuiltins g → IsWellFormed g p
-    → IsToldRun g p cast lines c es tr marks ds text → Runs c t q
+    → IsToldRun g p scene lines c es tr marks ds text → Runs c t q
     → IsInstanceAt p (path_of (thread_paths lines) t) q

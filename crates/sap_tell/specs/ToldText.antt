@@ -32,12 +32,17 @@ abbrev pub called_text : ℕ → Option (List ℕ × ℕ) → List ℕ
 called_text t None = number_text t
 called_text t (Some p) = role_text p.0 p.1 ++ (codes " (" ++ (number_text t ++ codes ")"))
 
--- the same, and where it stands
-abbrev pub thread_by : Option (List ℕ × ℕ) → List (List ℕ) → ℕ → List ℕ
-thread_by part paths t = called_text t part ++ (codes " at " ++ place_text (path_of paths t))
+-- where it stands: by the line of the file, or where there is none by the path
+abbrev pub where_text : Option ℕ → List ℕ → List ℕ
+where_text (Some n) path = codes "line " ++ decimal n
+where_text None path = place_text path
+
+-- what it is called, and where it stands
+abbrev pub thread_by : Option (List ℕ × ℕ) → Option ℕ → List ℕ → ℕ → List ℕ
+thread_by part line path t = called_text t part ++ (codes " at " ++ where_text line path)
 
 abbrev pub thread_text : Stage → ℕ → List ℕ
-thread_text s t = thread_by (part_of s t) s.paths t
+thread_text s t = thread_by (part_of s t) (s.line_at (path_of s.paths t)) (path_of s.paths t) t
 
 abbrev pub one_actor_text : Stage → Option ℕ → List ℕ
 one_actor_text s (Some t) = thread_text s t
@@ -47,6 +52,15 @@ one_actor_text s None = codes "adversary"
 abbrev pub actor_text : Stage → PStep → List ℕ
 actor_text a (line.Sync s t) = thread_text a s ++ (codes " to " ++ thread_text a t)
 actor_text a step = one_actor_text a (thread_of step)
+
+-- the line of a run of rules from which a line comes, if it comes from one
+abbrev pub step_text : Option ℕ → List ℕ
+step_text None = []
+step_text (Some k) = codes "(step " ++ (decimal k ++ codes ") ")
+
+-- what stands between the number of a line and what is done: that, and who acts
+abbrev pub head_told : Stage → PStep → List ℕ
+head_told a step = step_text a.step ++ actor_text a step
 
 -- a word with terms in parentheses
 abbrev pub call_text : List ℕ → List (List ℕ) → List ℕ
@@ -96,9 +110,9 @@ abbrev pub outcomes_text : List (List ℕ) → List ℕ
 outcomes_text [] = []
 outcomes_text (o ∷ os) = codes " -- " ++ joined (codes ", ") (o ∷ os)
 
--- a told line, without its line feed: its number, who acts, what is done, and what comes of it
+-- a told line, without its line feed: its number, its head, which says who acts, what is done, and what comes of it
 abbrev pub line_text : ℕ → List ℕ → List ℕ → List (List ℕ) → List ℕ
-line_text number actor action outcomes = decimal number ++ (codes ". " ++ (actor ++ (codes ": " ++ (action ++ outcomes_text outcomes))))
+line_text number head action outcomes = decimal number ++ (codes ". " ++ (head ++ (codes ": " ++ (action ++ outcomes_text outcomes))))
 
 -- behind the lines and what is judged: nothing where no name was drawn, or an empty line and what each name is called, with its number
 abbrev pub names_behind : List Draw → List ℕ

@@ -1,9 +1,8 @@
-//! What threads are called, and where they stand, as text.
+//! What threads are called, where they stand, and from which line of a run of rules a line comes, as text.
 ghost use Rattle.std.specs.Prelude.{◌≡◌, ◌++◌, Some, decimal, flat_map, option_map, OnOk};
 ghost use Rattle.sap_tell.specs.Stages.{part_view};
-ghost use Rattle.sap_tell.specs.ToldText.{called_text, number_text, place_text, role_text, thread_by};
+ghost use Rattle.sap_tell.specs.ToldText.{called_text, number_text, place_text, role_text, step_text, thread_by, where_text};
 
-use crate::ThreadPaths;
 use sap_terms::Mem;
 use sap_text::Text;
 
@@ -32,6 +31,19 @@ fn push_place(text: &mut Text, path: &[u8]) -> Result<(), Mem>
         text.push_bytes(b"the root")
     } else {
         push_digits(text, path)
+    }
+}
+
+// The place by its line of the file, or by its path where there is none.
+fn push_where(text: &mut Text, line: Option<u64>, path: &[u8]) -> Result<(), Mem>
+    ensures { OnOk result (text.new ≡ text.old ++ where_text line path.now) }
+{
+    match line {
+        None => push_place(text, path),
+        Some(line) => {
+            text.push_bytes(b"line ")?;
+            text.push_number(line)
+        }
     }
 }
 
@@ -72,16 +84,32 @@ fn push_called(text: &mut Text, part: Option<Part<'_>>, t: u64) -> Result<(), Me
     }
 }
 
-/// Puts a thread last, by what it is called and where it stands. Where memory is wanting, the first of it may stand there.
+/// Puts a thread last, by what it is called and where it stands: on this line of the file, or where there is none at the end of this path.
+/// Where memory is wanting, the first of it may stand there.
 pub fn push_thread(
     text: &mut Text,
     part: Option<Part<'_>>,
-    paths: &ThreadPaths,
+    line: Option<u64>,
+    path: &[u8],
     t: u64,
 ) -> Result<(), Mem>
-    ensures { OnOk result (text.new ≡ text.old ++ thread_by (option_map part_view part.entry) paths.now t) }
+    ensures { OnOk result (text.new ≡ text.old ++ thread_by (option_map part_view part.entry) line path.now t) }
 {
     push_called(text, part, t)?;
     text.push_bytes(b" at ")?;
-    push_place(text, paths.digits(t))
+    push_where(text, line, path)
+}
+
+/// Puts last from which line of a run of rules a line comes, if it comes from one. Where memory is wanting, the first of it may stand there.
+pub fn push_step(text: &mut Text, step: Option<u64>) -> Result<(), Mem>
+    ensures { OnOk result (text.new ≡ text.old ++ step_text step) }
+{
+    match step {
+        None => Ok(()),
+        Some(step) => {
+            text.push_bytes(b"(step ")?;
+            text.push_number(step)?;
+            text.push_bytes(b") ")
+        }
+    }
 }

@@ -22,7 +22,7 @@ ghost use Rattle.sap_tell.specs.ThreadPaths.{thread_paths, paths_from};
 ghost use Rattle.sap_tell.specs.ThreadPlaces.{IsInstanceAt};
 ghost use Rattle.sap_tell.specs.ToldText.{names_behind};
 ghost use Rattle.sap_tell.specs.Told.{IsToldLine, IsToldRun};
-ghost use Rattle.sap_tell.specs.ToldExamples.{at_root, first_lines, first_names, first_paths, no_roles, who, key, hi, signed, both, made, fresh_n, x, twice, two, on_key, greeting, f_of, a_of, g_of, showing, taking};
+ghost use Rattle.sap_tell.specs.ToldExamples.{at_root, by_roles, first_lines, first_names, first_paths, no_roles, root_on_line, who, key, hi, signed, both, made, fresh_n, x, twice, two, on_key, greeting, f_of, a_of, g_of, showing, taking};
 
 /// Where threads stand: behind the first lines of the run of the key server, behind branches that aren't taken, and behind look-ups.
 pub fn paths_by_hand()
@@ -179,9 +179,13 @@ pub fn forms_told_by_hand()
 {}
 
 /// A run of two lines of the process `0 | 0`, told: its lines in turn, numbered from 1, each with a line feed, and threads where they
-/// stand before each. By `one_told_text` no other text is told of it.
+/// stand before each; and in a file where the root stands on line 3, of lines that come from the fifth and the seventh of rules. By
+/// `one_told_text` no other text is told of it.
 pub fn run_told_by_hand()
-    ensures { (g : Sig) → (c : Config)
-        × IsToldRun g (whole.parallel whole.nil whole.nil) no_roles (line.Par 0 ∷ line.Nil 1 ∷ []) c [] [] [] []
+    ensures alone { (g : Sig) → (c : Config)
+        × IsToldRun g (whole.parallel whole.nil whole.nil) (by_roles no_roles) (line.Par 0 ∷ line.Nil 1 ∷ []) c [] [] [] []
         (codes "1. thread 0 at the root: | -- thread 1 begins\n2. thread 1 at 2: 0 -- thread 1 ends\n") }
+    ensures in_file { (g : Sig) → (c : Config)
+        × IsToldRun g (whole.parallel whole.nil whole.nil) root_on_line (line.Par 0 ∷ line.Nil 1 ∷ []) c [] [] [] []
+        (codes "1. (step 5) thread 0 at line 3: | -- thread 1 begins\n2. (step 7) thread 1 at 2: 0 -- thread 1 ends\n") }
 {}

@@ -4,12 +4,8 @@ use Rattle.sap_called.specs.Names.{Draw}
 use Rattle.sap_calc.specs.Running.{Running, configuration}
 use Rattle.sap_deduce.specs.Entries.{terms_of}
 use Rattle.sap_lines.specs.Lines.{IsProcessLine}
-use Rattle.sap_players.specs.Casts.{Cast}
-use Rattle.sap_players.specs.Numbers.{AreRoleNumbers}
 use Rattle.sap_process.specs.Configuration.{Config}
 use Rattle.sap_process.specs.Proc.{Proc}
-use Rattle.sap_roles.specs.Casts.{IsCastOfScript}
-use Rattle.sap_roles.specs.declared.script.Script.{Script}
 use Rattle.sap_runs.specs.Inner.{InnerAction}
 use Rattle.sap_runs.specs.Limits.{HasFewNodes}
 use Rattle.sap_runs.specs.Marks.{Mark}
@@ -19,30 +15,24 @@ use Rattle.sap_terms.specs.Trace.{Trace}
 use Rattle.sap_terms.specs.Tree.{Tree}
 use Rattle.sap_terms.specs.declared.fact.Fact.{Fact}
 use Rattle.sap_tell.specs.Draws.{draws_after}
-use Rattle.sap_tell.specs.Stages.{Stage}
+use Rattle.sap_tell.specs.Scenes.{Scene}
 use Rattle.sap_tell.specs.ThreadPaths.{paths_after}
 use Rattle.sap_tell.specs.Told.{IsToldLine, IsToldRun}
 use Rattle.sap_tell.specs.ToldText.{outcomes_text}
 use Rattle.sap_teller.specs.declared.telling.Along.{Along}
 
--- what the program keeps is that by which the threads of a line are called
-pub record IsOnStage (script : Script) (numbers paths : List (List ℕ)) (s : Stage) : Type 0 where
-  pub cast : IsCastOfScript script s.cast
-  pub numbers_are : AreRoleNumbers s.played numbers
-  pub paths_are : s.paths ≡ paths
-
 -- the line is possible within the limit, leads from one to the other and shows this, and the text tells it, where it has this number,
--- this is told of who acts in it, and these names were drawn
-pub record IsDoneAndTold (r z : Running) (number : ℕ) (who : List ℕ) (ds : List Draw) (step : PStep) (label : List Fact) (text : List ℕ) : Type 0 where
+-- this is its head, and these names were drawn
+pub record IsDoneAndTold (r z : Running) (number : ℕ) (head : List ℕ) (ds : List Draw) (step : PStep) (label : List Fact) (text : List ℕ) : Type 0 where
   pub inner : List InnerAction
   pub line : IsProcessLine r.sig HasFewNodes (configuration r) (terms_of r.known) step inner label (configuration z) (terms_of z.known)
   pub sig : z.sig ≡ r.sig
-  pub told : IsToldLine r.sig number who ds (configuration r) (terms_of r.known) step inner label (terms_of z.known) text
+  pub told : IsToldLine r.sig number head ds (configuration r) (terms_of r.known) step inner label (terms_of z.known) text
 
 -- It is told behind the lines before it, with a line feed; and so far the run is told then.
-pub record IsToldOn (r z : Running) (a b : Along) (who before after : List ℕ) (step : PStep) (label : List Fact) : Type 0 where
+pub record IsToldOn (r z : Running) (a b : Along) (head before after : List ℕ) (step : PStep) (label : List Fact) : Type 0 where
   pub told : List ℕ
-  pub done : IsDoneAndTold r z (a.lines + 1) who b.names step label told
+  pub done : IsDoneAndTold r z (a.lines + 1) head b.names step label told
   pub text : after ≡ before ++ (told ++ 10 ∷ [])
   pub paths : b.paths ≡ paths_after a.paths step
   pub names : b.names ≡ draws_after a.names (configuration r) step
@@ -50,9 +40,9 @@ pub record IsToldOn (r z : Running) (a b : Along) (who before after : List ℕ) 
   pub facts : b.facts ≡ length z.facts
 
 -- The same without the line feed; and what is done comes last of another text, with what comes of it beside what is shown and known.
-pub record IsToldApart (r z : Running) (a b : Along) (who before after apart_before apart_after : List ℕ) (step : PStep) (label : List Fact) : Type 0 where
+pub record IsToldApart (r z : Running) (a b : Along) (head before after apart_before apart_after : List ℕ) (step : PStep) (label : List Fact) : Type 0 where
   pub told : List ℕ
-  pub done : IsDoneAndTold r z (a.lines + 1) who b.names step label told
+  pub done : IsDoneAndTold r z (a.lines + 1) head b.names step label told
   pub text : after ≡ before ++ told
   pub apart : apart_after ≡ apart_before ++ (done.told.doing ++ outcomes_text done.told.outcomes)
   pub paths : b.paths ≡ paths_after a.paths step
@@ -60,9 +50,9 @@ pub record IsToldApart (r z : Running) (a b : Along) (who before after apart_bef
   pub lines : b.lines ≡ a.lines + 1
   pub facts : b.facts ≡ length z.facts
 
--- the lines are a legal run of the process, which has these roles, within the limit, which draws these names, and it is told by the text
-pub record IsToldAs (g : Sig) (p : Proc) (cast : Cast) (lines : List PStep) (trace : Trace) (ds : List Draw) (text : List ℕ) : Type 0 where
+-- the lines are a legal run of the process within the limit, which draws these names, and by this scene it is told by the text
+pub record IsToldAs (g : Sig) (p : Proc) (scene : Scene) (lines : List PStep) (trace : Trace) (ds : List Draw) (text : List ℕ) : Type 0 where
   pub config : Config
   pub entries : List Tree
   pub marks : List Mark
-  pub run : IsToldRun g p cast lines config entries trace marks ds text
+  pub run : IsToldRun g p scene lines config entries trace marks ds text

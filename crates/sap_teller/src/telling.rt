@@ -5,7 +5,6 @@ ghost use Rattle.sap_deduce.specs.Entries.{terms_of};
 ghost use Rattle.sap_lines.specs.Answers.{MatchesExactly};
 ghost use Rattle.sap_teller.specs.Telling.{IsToldApart, IsToldOn};
 ghost use Rattle.sap_tell.specs.ThreadPaths.{paths_after};
-ghost use Rattle.sap_tell.specs.ToldText.{actor_text};
 ghost use Rattle.sap_teller.specs.code.Heads.{added_by, form_at, form_of, noted, IsBefore};
 ghost use Rattle.sap_teller.specs.code.Lines.{apart_text, body_text, numbered_text, IsPushed, IsPushedTwice, IsToldApartFrom, IsToldFrom};
 
@@ -71,13 +70,13 @@ fn push_body(
     push_outcomes(text, names, first, doing)
 }
 
-// The number of a line, and who acts.
-fn push_start(text: &mut Text, number: u64, who: &[u8]) -> Result<(), Mem>
-    ensures { OnOk result (text.new ≡ text.old ++ numbered_text number who.now) }
+// The number of a line, and its head.
+fn push_start(text: &mut Text, number: u64, head: &[u8]) -> Result<(), Mem>
+    ensures { OnOk result (text.new ≡ text.old ++ numbered_text number head.now) }
 {
     text.push_number(number)?;
     text.push_bytes(b". ")?;
-    text.push_bytes(who)?;
+    text.push_bytes(head)?;
     text.push_bytes(b": ")
 }
 
@@ -167,30 +166,30 @@ fn tell(
     config: &Config,
     at: &mut Along,
     kept: &Before,
-    who: &[u8],
+    head: &[u8],
     step: &PStep,
     label: &FactList,
     text: &mut Text,
 ) -> Result<(), Mem>
     requires sig { config.now.sig ≡ sig.now }
     requires lines { at.old.lines < u64.MAX }
-    ensures { OnOk result (IsToldFrom kept.now config.now step.now label.now at.old at.new who.now text.old text.new) }
+    ensures { OnOk result (IsToldFrom kept.now config.now step.now label.now at.old at.new head.now text.old text.new) }
 {
     note(alloc, &mut at.names, step, lent(&kept.head))?;
-    push_start(text, at.lines + 1, who)?;
+    push_start(text, at.lines + 1, head)?;
     push_line(alloc, sig, config, &at.names, kept, step, label, text)?;
     text.push_byte(b'\n')?;
     at.go_on(alloc, step, kept)
 }
 
-/// Does one line, and puts last what is told of it, with a line feed, where this is told of who acts in it; gives its label. Refused, the configuration is as it was; the
+/// Does one line, and puts last what is told of it, with a line feed, where this is its head; gives its label. Refused, the configuration is as it was; the
 /// fault is want of memory, where nothing is said of text and progress, or the first test of the line that fails.
 pub fn tell_line(
     alloc: Global,
     sig: &Signature,
     config: &mut Config,
     at: &mut Along,
-    who: &[u8],
+    head: &[u8],
     step: &PStep,
     text: &mut Text,
 ) -> Result<FactList, PFault>
@@ -198,7 +197,7 @@ pub fn tell_line(
     requires exact { MatchesExactly sig.now (configuration config.old) (terms_of config.old.known) }
     requires facts { at.old.facts ≡ length config.old.facts }
     requires lines { at.old.lines < u64.MAX }
-    ensures ok { IfOk result (λ label. IsToldOn config.old config.new at.old at.new who.now text.old text.new step.now label) }
+    ensures ok { IfOk result (λ label. IsToldOn config.old config.new at.old at.new head.now text.old text.new step.now label) }
     ensures refused { IfErr result (IsDenied config.old step.now) }
 {
     match do_line(alloc, config, at.facts, step) {
@@ -209,7 +208,7 @@ pub fn tell_line(
             config,
             at,
             &done.kept,
-            who,
+            head,
             step,
             &done.label,
             text,
@@ -272,7 +271,7 @@ fn tell_apart(
     config: &Config,
     at: &mut Along,
     kept: &Before,
-    who: &[u8],
+    head: &[u8],
     step: &PStep,
     label: &FactList,
     text: &mut Text,
@@ -280,10 +279,10 @@ fn tell_apart(
 ) -> Result<(), Mem>
     requires sig { config.now.sig ≡ sig.now }
     requires lines { at.old.lines < u64.MAX }
-    ensures { OnOk result (IsToldApartFrom kept.now config.now step.now label.now at.old at.new who.now text.old text.new apart.old apart.new) }
+    ensures { OnOk result (IsToldApartFrom kept.now config.now step.now label.now at.old at.new head.now text.old text.new apart.old apart.new) }
 {
     note(alloc, &mut at.names, step, lent(&kept.head))?;
-    push_start(text, at.lines + 1, who)?;
+    push_start(text, at.lines + 1, head)?;
     push_twice(
         alloc, sig, config, &at.names, kept, step, label, text, apart,
     )?;
@@ -297,7 +296,7 @@ pub fn tell_line_apart(
     sig: &Signature,
     config: &mut Config,
     at: &mut Along,
-    who: &[u8],
+    head: &[u8],
     step: &PStep,
     text: &mut Text,
     apart: &mut Text,
@@ -306,7 +305,7 @@ pub fn tell_line_apart(
     requires exact { MatchesExactly sig.now (configuration config.old) (terms_of config.old.known) }
     requires facts { at.old.facts ≡ length config.old.facts }
     requires lines { at.old.lines < u64.MAX }
-    ensures ok { IfOk result (λ label. IsToldApart config.old config.new at.old at.new who.now text.old text.new apart.old apart.new step.now label) }
+    ensures ok { IfOk result (λ label. IsToldApart config.old config.new at.old at.new head.now text.old text.new apart.old apart.new step.now label) }
     ensures refused { IfErr result (IsDenied config.old step.now) }
 {
     match do_line(alloc, config, at.facts, step) {
@@ -317,7 +316,7 @@ pub fn tell_line_apart(
             config,
             at,
             &done.kept,
-            who,
+            head,
             step,
             &done.label,
             text,

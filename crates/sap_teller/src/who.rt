@@ -1,18 +1,19 @@
-//! Who acts in a line, by their roles.
-ghost use Rattle.std.specs.Prelude.{◌≡◌, ◌<◌, ◌++◌, List, [], IfOk, OnOk, codes, length, option_map, slice_index_or};
+//! Who acts in a line, by their roles and where they stand.
+ghost use Rattle.std.specs.Prelude.{◌≡◌, ℕ, ◌<◌, ◌++◌, List, [], IfOk, OnOk, codes, length, option_map, slice_get, slice_index_or};
 ghost use Rattle.sap_players.specs.Casts.{Cast};
 ghost use Rattle.sap_players.specs.Numbers.{AreRoleNumbers, Player, role_number};
 ghost use Rattle.sap_roles.specs.Casts.{IsCastOfScript, IsScript, role_count};
 ghost use Rattle.sap_tell.specs.Stages.{Stage, doers, part_by, part_view, player, players_of};
 ghost use Rattle.sap_tell.specs.ThreadPaths.{path_of};
-ghost use Rattle.sap_tell.specs.ToldText.{actor_text, thread_text};
-ghost use Rattle.sap_teller.specs.Telling.{IsOnStage};
+ghost use Rattle.sap_tell.specs.ToldText.{actor_text, head_told, thread_text};
+ghost use Rattle.sap_teller.specs.Settings.{IsOnStage, IsSetting};
 ghost use Rattle.sap_teller.specs.code.Acting.{acting, doing_threads, threads_in};
 
+use crate::setting::Setting;
 use sap_players::RoleNumbers;
 use sap_roles::Script;
 use sap_runs::PStep;
-use sap_tell::{Part, ThreadPaths, push_thread};
+use sap_tell::{Part, ThreadPaths, push_step, push_thread};
 use sap_terms::Mem;
 use sap_text::Text;
 use std::alloc::Global;
@@ -177,73 +178,90 @@ pub fn note_players(
     note_acting(script, numbers, paths, doing(step))
 }
 
-// A thread as it is called, and where it stands.
-fn push_one(
+/// A thread as it is called, and where it stands, last in a text. Want of memory is the only error.
+pub fn push_one(
     text: &mut Text,
-    script: &Script,
+    alloc: Global,
+    setting: &Setting<'_>,
     numbers: &RoleNumbers,
     paths: &ThreadPaths,
     t: u64,
 ) -> Result<(), Mem>
-    requires script { IsScript script.now }
-    requires count { length numbers.now ≡ role_count script.now }
-    ensures { (s : Stage) → IsOnStage script.now numbers.now paths.now s → OnOk result (text.new ≡ text.old ++ thread_text s t) }
+    requires setting { IsSetting setting.now }
+    requires count { length numbers.now ≡ role_count setting.now.script.now }
+    ensures { (count : ℕ) (s : Stage) → IsOnStage setting.now numbers.now paths.now count s
+        → OnOk result (text.new ≡ text.old ++ thread_text s t) }
 {
-    let part = part_of(script, numbers, paths.digits(t), t);
-    push_thread(text, part, paths, t)
+    let path = paths.digits(t);
+    let line = setting.places.line(alloc, path)?;
+    let part = part_of(setting.script, numbers, path, t);
+    push_thread(text, part, line, path, t)
 }
 
 // Two that meet.
 fn push_two(
     text: &mut Text,
-    script: &Script,
+    alloc: Global,
+    setting: &Setting<'_>,
     numbers: &RoleNumbers,
     paths: &ThreadPaths,
     s: u64,
     t: u64,
 ) -> Result<(), Mem>
-    requires script { IsScript script.now }
-    requires count { length numbers.now ≡ role_count script.now }
-    ensures { (a : Stage) → IsOnStage script.now numbers.now paths.now a
+    requires setting { IsSetting setting.now }
+    requires count { length numbers.now ≡ role_count setting.now.script.now }
+    ensures { (count : ℕ) (a : Stage) → IsOnStage setting.now numbers.now paths.now count a
         → OnOk result (text.new ≡ ((text.old ++ thread_text a s) ++ codes " to ") ++ thread_text a t) }
 {
-    push_one(text, script, numbers, paths, s)?;
+    push_one(text, alloc, setting, numbers, paths, s)?;
     text.push_bytes(b" to ")?;
-    push_one(text, script, numbers, paths, t)
+    push_one(text, alloc, setting, numbers, paths, t)
 }
 
 // Who acts, last in a text.
 fn push_actor(
     text: &mut Text,
-    script: &Script,
+    alloc: Global,
+    setting: &Setting<'_>,
     numbers: &RoleNumbers,
     paths: &ThreadPaths,
     step: &PStep,
 ) -> Result<(), Mem>
-    requires script { IsScript script.now }
-    requires count { length numbers.now ≡ role_count script.now }
-    ensures { (s : Stage) → IsOnStage script.now numbers.now paths.now s → OnOk result (text.new ≡ text.old ++ actor_text s step.now) }
+    requires setting { IsSetting setting.now }
+    requires count { length numbers.now ≡ role_count setting.now.script.now }
+    ensures { (count : ℕ) (s : Stage) → IsOnStage setting.now numbers.now paths.now count s
+        → OnOk result (text.new ≡ text.old ++ actor_text s step.now) }
 {
     match who_acts(step) {
         Acting::Nobody => text.push_bytes(b"adversary"),
-        Acting::One(t) => push_one(text, script, numbers, paths, t),
-        Acting::Two(s, t) => push_two(text, script, numbers, paths, s, t),
+        Acting::One(t) => push_one(text, alloc, setting, numbers, paths, t),
+        Acting::Two(s, t) => push_two(text, alloc, setting, numbers, paths, s, t),
     }
 }
 
-/// What is told of who acts in a line, whose threads are noted, before they go on. Want of memory is the only error.
-pub fn told_actor(
+// The line of a run of rules from which the one behind so many comes, if it comes from one.
+fn step_at(steps: &[u64], count: u64) -> Option<u64>
+    ensures { result ≡ slice_get steps.now count }
+{
+    steps.get(count as usize).copied()
+}
+
+/// The head of a line behind so many, whose threads are noted, before they go on: from which line of a run of rules it comes, if it comes
+/// from one, and who acts in it. Want of memory is the only error.
+pub fn told_head(
     alloc: Global,
-    script: &Script,
+    setting: &Setting<'_>,
     numbers: &RoleNumbers,
     paths: &ThreadPaths,
+    count: u64,
     step: &PStep,
 ) -> Result<Text, Mem>
-    requires script { IsScript script.now }
-    requires count { length numbers.now ≡ role_count script.now }
-    ensures { (s : Stage) → IsOnStage script.now numbers.now paths.now s → IfOk result (λ text. text ≡ actor_text s step.now) }
+    requires setting { IsSetting setting.now }
+    requires count { length numbers.now ≡ role_count setting.now.script.now }
+    ensures { (s : Stage) → IsOnStage setting.now numbers.now paths.now count s → IfOk result (λ text. text ≡ head_told s step.now) }
 {
     let mut text = Text::new(alloc);
-    push_actor(&mut text, script, numbers, paths, step)?;
+    push_step(&mut text, step_at(setting.steps, count))?;
+    push_actor(&mut text, alloc, setting, numbers, paths, step)?;
     Ok(text)
 }

@@ -1,8 +1,7 @@
 //! The commands that tell and draw runs, tried by hand.
 
-ghost use Rattle.std.specs.Prelude.{◌≡◌, ℕ, codes, List, [], ◌∷◌, ◌++◌};
+ghost use Rattle.std.specs.Prelude.{◌≡◌, ℕ, codes, List, [], ◌∷◌, ◌++◌, Some};
 ghost use Rattle.sap_back.specs.Converted.{IsConvertedToProcess};
-ghost use Rattle.sap_players.specs.Casts.{Cast};
 ghost use Rattle.sap_process.specs.Proc.{nil};
 ghost use Rattle.sap_read.specs.Files.{FileContent};
 ghost use Rattle.sap_run_texts.specs.declared.run.Kinds.TheVariants.{Either};
@@ -11,7 +10,8 @@ ghost use Rattle.sap_run_texts.specs.declared.run.Run.TheVariants as runs;
 ghost use Rattle.sap_runs.specs.declared.process_step.PStep.{PStep};
 ghost use Rattle.sap_runs.specs.declared.process_step.PStep.TheVariants as line;
 ghost use Rattle.sap_runs.specs.declared.rule_step.RStep.{RStep};
-ghost use Rattle.sap_replay.specs.FileRoles.{HasCast};
+ghost use Rattle.sap_tell.specs.Scenes.{Scene};
+ghost use Rattle.sap_replay.specs.FileScenes.{HasScene};
 ghost use Rattle.sap_replay.specs.Tasks.{Writes, kinds_of};
 ghost use Rattle.sap_tool.specs.Commands.{replay, spelled};
 ghost use Rattle.sap_replay.specs.ToldRuns.{AreLinesOf};
@@ -27,12 +27,13 @@ pub fn telling_by_hand()
     ensures either { kinds_of Tell ≡ Either }
     ensures chart_words { spelled (replay Chart (codes "a") (codes "b")) ≡ codes "chart" ∷ codes "a" ∷ codes "b" ∷ [] }
     ensures chart_either { kinds_of Chart ≡ Either }
-    ensures empty { (bytes : List ℕ) (cast : Cast) (f : FileContent) → HasCast bytes cast → f.restrictions ≡ [] → f.lemmas ≡ []
+    ensures empty { (bytes : List ℕ) (scene : Scene) (f : FileContent) → HasScene bytes scene → f.restrictions ≡ [] → f.lemmas ≡ []
         → Writes Tell bytes f (runs.Process []) (10 ∷ []) }
-    ensures one_line { (bytes : List ℕ) (cast : Cast) (f : FileContent) (verdicts : List ℕ) → HasCast bytes cast → f.process ≡ nil
+    ensures one_line { (bytes : List ℕ) (scene : Scene) (f : FileContent) (verdicts : List ℕ) → HasScene bytes scene → f.process ≡ nil
+        → scene.line_at [] ≡ Some 3
         → AreVerdicts f.signature [] (all_judged f.restrictions f.lemmas) verdicts
         → Writes Tell bytes f (runs.Process (line.Nil 0 ∷ []))
-        (codes "1. thread 0 at the root: 0 -- thread 0 ends\n" ++ 10 ∷ verdicts) }
+        (codes "1. thread 0 at line 3: 0 -- thread 0 ends\n" ++ 10 ∷ verdicts) }
     ensures no_lines { (bytes : List ℕ) (f : FileContent) (text : List ℕ) → Writes Tell bytes f (runs.Rules []) text
         → Writes Tell bytes f (runs.Process []) text }
     ensures not_bare { (bytes : List ℕ) (f : FileContent) (r : Run) → Writes Tell bytes f r [] → ⊥ }

@@ -15,9 +15,9 @@ use Rattle.sap_teller.specs.declared.before.Before.{Before}
 use Rattle.sap_teller.specs.declared.doing.Doing.{Doing}
 use Rattle.sap_teller.specs.declared.telling.Along.{Along}
 
--- its number and who acts
+-- its number and its head
 abbrev pub numbered_text : ℕ → List ℕ → List ℕ
-numbered_text number actor = decimal number ++ (codes ". " ++ (actor ++ codes ": "))
+numbered_text number head = decimal number ++ (codes ". " ++ (head ++ codes ": "))
 
 -- what is done and what comes of it
 abbrev pub body_text : List Draw → List Fact → ℕ → Option Tree → Doing → List ℕ
@@ -31,8 +31,8 @@ pub record IsPushed (ds : List Draw) (kept : Before) (z : Running) (step : PStep
 
 -- from wherever this was kept and the line was done, it is told
 abbrev pub IsToldFrom : Before → Running → PStep → List Fact → Along → Along → List ℕ → List ℕ → List ℕ → Type 0
-IsToldFrom kept z step label a b who before after =
-    (r : Running) → MatchesExactly r.sig (configuration r) (terms_of r.known) → IsBefore r step kept → IsDone r z step label → IsToldOn r z a b who before after step label
+IsToldFrom kept z step label a b head before after =
+    (r : Running) → MatchesExactly r.sig (configuration r) (terms_of r.known) → IsBefore r step kept → IsDone r z step label → IsToldOn r z a b head before after step label
 
 -- what is done, with what comes of it beside what is shown and known
 abbrev pub apart_text : List Draw → List Fact → Doing → List ℕ
@@ -47,5 +47,5 @@ pub record IsPushedTwice (ds : List Draw) (kept : Before) (z : Running) (step : 
 
 -- from wherever this was kept and the line was done, it is told, and told apart
 abbrev pub IsToldApartFrom : Before → Running → PStep → List Fact → Along → Along → List ℕ → List ℕ → List ℕ → List ℕ → List ℕ → Type 0
-IsToldApartFrom kept z step label a b who before after apart_before apart_after =
-    (r : Running) → MatchesExactly r.sig (configuration r) (terms_of r.known) → IsBefore r step kept → IsDone r z step label → IsToldApart r z a b who before after apart_before apart_after step label
+IsToldApartFrom kept z step label a b head before after apart_before apart_after =
+    (r : Running) → MatchesExactly r.sig (configuration r) (terms_of r.known) → IsBefore r step kept → IsDone r z step label → IsToldApart r z a b head before after apart_before apart_after step label

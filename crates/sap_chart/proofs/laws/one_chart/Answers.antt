@@ -1,7 +1,6 @@
 use Rattle.sap_chart.proofs.AllRows.{all_rows}
 use Rattle.sap_chart.proofs.OneChart.{bare, one_chart}
 use Rattle.sap_chart.proofs.OneLifeline.{one_lifeline}
-use Rattle.sap_chart.proofs.ReadBack.{tell_the_same, told_back}
 use Rattle.sap_chart.proofs.laws.one_chart.Goals as goal
 
 pub returns-clause-chart : goal.returns-clause-chart
@@ -18,13 +17,7 @@ pub returns-clause-rows : goal.returns-clause-rows
 returns-clause-rows c = bare
 
 pub returns-clause-drawn : goal.returns-clause-drawn
-returns-clause-drawn c = all_rows c.escaped_stands_for_one.ensures.no_marks
+returns-clause-drawn c = all_rows c.titles_are_read_back.ensures.titles
 
 pub returns-clause-lifelines : goal.returns-clause-lifelines
 returns-clause-lifelines c = one_lifeline
-
-pub returns-clause-titles : goal.returns-clause-titles
-returns-clause-titles c = told_back c.escaped_stands_for_one.ensures.no_marks c.escaped_stands_for_one.ensures.read_back
-
-pub returns-clause-told : goal.returns-clause-told
-returns-clause-told c = tell_the_same c.escaped_stands_for_one.ensures.no_marks c.escaped_stands_for_one.ensures.read_back c.escaped_stands_for_one.ensures.one

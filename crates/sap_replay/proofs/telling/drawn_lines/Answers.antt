@@ -16,10 +16,10 @@ returns-in-Err-clause-refused c = λ line h.
     process_stops _ _ c.in-Err.why line is (λ number fault e. c.in-Err.ensures.refused number fault (ap Err e))
 
 pub returns-in-Ok-clause-given : goal.returns-in-Ok-clause-given
-returns-in-Ok-clause-given c = λ cast is.
-    let h = c.in-Ok.ensures.charted cast is in
+returns-in-Ok-clause-given c = λ scene is.
+    let h = c.in-Ok.ensures.charted scene is in
     let alone : c.chart_run.new.text ≡ h.chart = h.grows ∙ ap (λ z. z ++ h.chart) c.new-text.ensures in
     record {
       trace = c.in-Ok.field-0;
-      chart = subst (λ (z : List ℕ). IsChart c.args.file.now.signature (proc c.args.file.now.process) cast c.args.lines.now c.in-Ok.field-0 z) (sym alone) h.is;
+      chart = subst (λ (z : List ℕ). IsChart c.args.file.now.signature (proc c.args.file.now.process) scene c.args.lines.now c.in-Ok.field-0 z) (sym alone) h.is;
     }

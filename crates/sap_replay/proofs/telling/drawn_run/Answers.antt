@@ -2,5 +2,5 @@ use Rattle.sap_replay.proofs.telling.drawn_run.Goals as goal
 
 pub returns-clause-given : goal.returns-clause-given
 returns-clause-given c =
-    let cast = c.in_ok-script.ensures.cast in
-    c.drawn_by_roles.ensures.given c.args.bytes.now cast.0 cast.1 cast.2
+    let found = c.in_ok-scenery.ensures.scene in
+    c.drawn_by_scenery.ensures.given c.args.bytes.now found.0 found.1 found.2

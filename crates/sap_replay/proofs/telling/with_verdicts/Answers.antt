@@ -5,13 +5,13 @@ use Rattle.sap_replay.proofs.ToldMeant.{names_behind_line}
 use Rattle.sap_replay.proofs.telling.with_verdicts.Goals as goal
 
 pub returns : goal.returns
-returns c = λ cast lines t.
+returns c = λ scene lines t.
     let f = told_by c.args.file.now in
     let seen = of_process (record {
       config = t.config;
       entries = t.entries;
       marks = t.marks;
-      legal = c.legal_runs_are_told.ensures.legal f.signature f.process cast lines t.config t.entries c.args.run.told.trace t.marks c.args.run.names c.args.run.told.text t.run;
+      legal = c.legal_runs_are_told.ensures.legal f.signature f.process scene lines t.config t.entries c.args.run.told.trace t.marks c.args.run.names c.args.run.told.text t.run;
     }) in
     record {
       trace = c.args.run.told.trace;

@@ -1,10 +1,7 @@
-use Rattle.std.proofs.Common.{◌≡◌, ℕ, true, false, List, refl}
+use Rattle.std.proofs.Common.{refl}
 use Rattle.std.specs.Fmt.{digits}
-use Rattle.std.specs.Str.{bytes_eq}
+use Rattle.sap_tell.proofs.Differ.{differ}
 use Rattle.sap_tell.proofs.roles_by_hand.roles_told_by_hand.Goals as goal
-
-differ : {a b : List ℕ} → bytes_eq a b ≡ false → bytes_eq b b ≡ true → a ≡ b → ⊥
-differ {b = b} apart alike e = let same : bytes_eq b b ≡ false = rw e at apart in absurd (cc)
 
 pub returns-clause-first : goal.returns-clause-first
 unfolding digits

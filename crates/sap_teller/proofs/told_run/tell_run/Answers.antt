@@ -8,12 +8,12 @@ use Rattle.sap_runs.specs.declared.process_step.PStep.{PStep}
 use Rattle.sap_terms.proofs.PlainLaws.Lists.{take_got}
 use Rattle.sap_teller.specs.code.Runs.{IsNextPlayed, IsPlayedSoFar, IsToldSoFar}
 use Rattle.sap_lines.specs.declared.at.At.TheVariants.{Step as StepOf}
-use Rattle.sap_teller.proofs.ToldRuns.{none_told, more_played, told_exactly, all_told, first_refused, take_all}
+use Rattle.sap_teller.proofs.ToldRuns.{none_told, more_played, told_exactly, all_told, all_shown, first_refused, take_all}
 use Rattle.sap_teller.proofs.told_run.tell_run.Goals as goal
 
 pub loop-k-init : goal.loop-k-init
 loop-k-init c = record {
-  told = λ cast is. none_told c.legal_runs_are_told.ensures.legal c.args.sig.now (proc c.args.p.now) cast c.in_ok-config.config.value c.in_ok-at.at (record { text = c.new-2.result; trace = c.new-3.result }) c.in_ok-config.ensures.sig c.in_ok-config.ensures.known c.in_ok-config.ensures.configuration c.in_ok-at.ensures.paths c.in_ok-at.ensures.lines c.in_ok-at.ensures.facts c.in_ok-at.ensures.names c.new-2.ensures c.new-3.ensures;
+  told = λ scene is. none_told c.legal_runs_are_told.ensures.legal c.times_have_lines.ensures.lines c.args.sig.now (proc c.args.p.now) scene c.in_ok-config.config.value c.in_ok-at.at (record { text = c.new-2.result; trace = c.new-3.result; times = c.new-4.result }) c.in_ok-config.ensures.sig c.in_ok-config.ensures.known c.in_ok-config.ensures.configuration c.in_ok-at.ensures.paths c.in_ok-at.ensures.lines c.in_ok-at.ensures.facts c.in_ok-at.ensures.names c.new-2.ensures c.new-3.ensures c.new-4.ensures;
   noted = λ cast is. c.in_ok-numbers.ensures.none;
   count = c.in_ok-numbers.ensures.roles ∙ c.len.ensures;
   sig = c.in_ok-config.ensures.sig;
@@ -24,29 +24,35 @@ loop-k-init c = record {
 pub tell_played-requires-clause-exact : goal.tell_played-requires-clause-exact
 tell_played-requires-clause-exact c =
     let here : c.deref_mut.result.now ≡ c.loop-k.config.value = cc in
-    let some = c.casts_are_one.ensures.scripts c.args.script.now c.requires.script in
+    let some = c.settings_have_scenes.ensures c.args.setting.now c.requires.setting in
     subst (λ (z : Running). MatchesExactly c.args.sig.now (configuration z) (terms_of z.known)) (sym here)
-    (told_exactly c.legal_runs_are_told.ensures.legal c.args.sig.now (proc c.args.p.now) some.0 c.runs_match_exactly.ensures c.limit_excludes.ensures.runs c.requires.builtins c.requires.ready (take c.loop-k.k c.args.run.now) c.loop-k.config.value c.loop-k.at c.loop-k.told (c.loop-k.invariant.told some.0 some.1))
+    (told_exactly c.legal_runs_are_told.ensures.legal c.times_have_lines.ensures.lines c.args.sig.now (proc c.args.p.now) some.0 c.runs_match_exactly.ensures c.limit_excludes.ensures.runs c.requires.builtins c.requires.ready (take c.loop-k.k c.args.run.now) c.loop-k.config.value c.loop-k.at c.loop-k.told (c.loop-k.invariant.told some.0 some.1))
 
 pub loop-k-preserved : goal.loop-k-preserved
 loop-k-preserved c =
     let run = c.args.run.now in
     let step = c.at.result.now in
     let here : c.deref_mut.result.now ≡ c.loop-k.config.value = cc in
-    let next = subst (λ (z : Running). IsNextPlayed c.args.script.now z c.tell_played.new.config c.loop-k.at c.tell_played.new.at c.loop-k.numbers c.tell_played.new.numbers c.loop-k.told c.tell_played.new.told step) here c.in_ok-tell_played.ensures.ok in
-    subst (λ (ls : List PStep). IsPlayedSoFar c.args.sig.now (proc c.args.p.now) c.args.script.now ls c.tell_played.new.config c.tell_played.new.at c.tell_played.new.numbers c.tell_played.new.told) (sym (take_got run c.loop-k.k step c.at.ensures))
-    (more_played c.legal_runs_are_told.ensures.legal c.args.sig.now (proc c.args.p.now) c.args.script.now (c.casts_are_one.ensures.scripts c.args.script.now c.requires.script) (take c.loop-k.k run) c.loop-k.config.value c.tell_played.new.config c.loop-k.at c.tell_played.new.at c.loop-k.numbers c.tell_played.new.numbers c.loop-k.told c.tell_played.new.told step c.loop-k.invariant next)
+    let next = subst (λ (z : Running). IsNextPlayed c.args.setting.now z c.tell_played.new.config c.loop-k.at c.tell_played.new.at c.loop-k.numbers c.tell_played.new.numbers c.loop-k.told c.tell_played.new.told step) here c.in_ok-tell_played.ensures.ok in
+    subst (λ (ls : List PStep). IsPlayedSoFar c.args.sig.now (proc c.args.p.now) c.args.setting.now ls c.tell_played.new.config c.tell_played.new.at c.tell_played.new.numbers c.tell_played.new.told) (sym (take_got run c.loop-k.k step c.at.ensures))
+    (more_played c.legal_runs_are_told.ensures.legal c.times_have_lines.ensures.lines c.args.sig.now (proc c.args.p.now) c.args.setting.now (c.settings_have_scenes.ensures c.args.setting.now c.requires.setting) (take c.loop-k.k run) c.loop-k.config.value c.tell_played.new.config c.loop-k.at c.tell_played.new.at c.loop-k.numbers c.tell_played.new.numbers c.loop-k.told c.tell_played.new.told step c.loop-k.invariant next)
 
 pub returns-in_err-tell_played-clause-refused : goal.returns-in_err-tell_played-clause-refused
 returns-in_err-tell_played-clause-refused c = λ n fault is.
     let here : c.deref_mut.result.now ≡ c.loop-k.config.value = cc in
-    let some = c.casts_are_one.ensures.scripts c.args.script.now c.requires.script in
+    let some = c.settings_have_scenes.ensures c.args.setting.now c.requires.setting in
     let same : c.in_err-tell_played.field-0.0 ≡ StepOf n fault = grind (arith, common_steps, is, c.from_residual-in_err-tell_played.ensures) in
-    first_refused c.legal_runs_are_told.ensures.legal c.args.sig.now (proc c.args.p.now) some.0 c.args.run.now c.loop-k.k c.at.result.now c.at.ensures c.loop-k.config.value c.loop-k.at c.loop-k.told (c.loop-k.invariant.told some.0 some.1) n fault
+    first_refused c.legal_runs_are_told.ensures.legal c.times_have_lines.ensures.lines c.args.sig.now (proc c.args.p.now) some.0 c.args.run.now c.loop-k.k c.at.result.now c.at.ensures c.loop-k.config.value c.loop-k.at c.loop-k.told (c.loop-k.invariant.told some.0 some.1) n fault
     (subst (λ (z : Running). IsDeniedAt z c.at.result.now (c.loop-k.at.lines + 1) n fault) here (c.in_err-tell_played.ensures.refused n fault (grind (arith, common_steps, same))))
 
 pub returns-clause-told : goal.returns-clause-told
-returns-clause-told c = λ cast is.
+returns-clause-told c = λ scene is.
     let run = c.args.run.now in
-    all_told c.legal_runs_are_told.ensures.legal c.args.sig.now (proc c.args.p.now) cast run c.loop-k.config.value c.loop-k.at c.loop-k.told
-    (subst (λ (ls : List PStep). IsToldSoFar c.args.sig.now (proc c.args.p.now) cast ls c.loop-k.config.value c.loop-k.at c.loop-k.told) (take_all run c.loop-k.k (omega arith)) (c.loop-k.invariant.told cast is))
+    all_told c.legal_runs_are_told.ensures.legal c.times_have_lines.ensures.lines c.args.sig.now (proc c.args.p.now) scene run c.loop-k.config.value c.loop-k.at c.loop-k.told
+    (subst (λ (ls : List PStep). IsToldSoFar c.args.sig.now (proc c.args.p.now) scene ls c.loop-k.config.value c.loop-k.at c.loop-k.told) (take_all run c.loop-k.k (omega arith)) (c.loop-k.invariant.told scene is))
+
+pub returns-clause-times : goal.returns-clause-times
+returns-clause-times c = λ scene is.
+    let run = c.args.run.now in
+    all_shown c.legal_runs_are_told.ensures.legal c.times_have_lines.ensures.lines c.args.sig.now (proc c.args.p.now) scene run c.loop-k.config.value c.loop-k.at c.loop-k.told
+    (subst (λ (ls : List PStep). IsToldSoFar c.args.sig.now (proc c.args.p.now) scene ls c.loop-k.config.value c.loop-k.at c.loop-k.told) (take_all run c.loop-k.k (omega arith)) (c.loop-k.invariant.told scene is))

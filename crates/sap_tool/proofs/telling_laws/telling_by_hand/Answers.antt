@@ -1,4 +1,4 @@
-use Rattle.std.specs.Prelude.{option_and_then, option_map, slice_index_or}
+use Rattle.std.specs.Prelude.{option_and_then, option_map, slice_get, slice_index_or}
 use Rattle.sap_players.specs.Numbers.{role_number}
 use Rattle.std.proofs.Common.{◌≡◌, ℕ, codes, List, [], ◌∷◌, ◌++◌, length, Option, Some, None, refl, sym, ap, subst, ◌∙◌}
 use Rattle.std.proofs.lemmas.List.{append-nil}
@@ -6,9 +6,9 @@ use Rattle.std.specs.Fmt.{digits}
 use Rattle.sap_back.specs.Converted.{IsConvertedToProcess}
 use Rattle.sap_formula.specs.Form.{LemmaForm, RestrictionForm}
 use Rattle.sap_lines.specs.Lines as lines
-use Rattle.sap_players.specs.Casts.{Cast}
+use Rattle.sap_tell.specs.Scenes.{Scene}
 use Rattle.sap_tell.specs.Stages.{stage_of}
-use Rattle.sap_tell.specs.ToldText.{actor_text, called_text}
+use Rattle.sap_tell.specs.ToldText.{called_text, head_told, step_text, where_text}
 use Rattle.sap_process.specs.Configuration.{becomes, initial}
 use Rattle.sap_process.specs.Proc.{nil}
 use Rattle.sap_read.specs.Files.{FileContent}
@@ -25,9 +25,9 @@ use Rattle.sap_replay.specs.Verdicts.{AreVerdicts, all_judged, no_line}
 use Rattle.sap_tool.proofs.telling_laws.telling_by_hand.Goals as goal
 
 pub returns-clause-empty : goal.returns-clause-empty
-returns-clause-empty c = λ bytes cast f roles restrictions lemmas. record {
-  cast = cast;
-  roles = roles;
+returns-clause-empty c = λ bytes scene f has restrictions lemmas. record {
+  scene = scene;
+  in_file = has;
   lines = [];
   of_run = own [];
   written = record {
@@ -43,35 +43,38 @@ returns-clause-empty c = λ bytes cast f roles restrictions lemmas. record {
 }
 
 -- a thread that ends at once is told by its number, whatever role it has there
-ended_so : (cast : Cast) → actor_text (stage_of cast [] (line.Nil 0)) (line.Nil 0) ≡ codes "thread 0 at the root"
+ended_so : (scene : Scene) → scene.line_at [] ≡ Some 3 → scene.steps ≡ [] → head_told (stage_of scene [] (line.Nil 0)) (line.Nil 0) ≡ codes "thread 0 at line 3"
 unfolding digits
-ended_so cast = by (cast.at [])
+ended_so scene here steps = (λ i. step_text (slice_get (steps i) 0) ++ (called_text 0 (part (scene.cast.at [])) ++ (codes " at " ++ where_text (here i) []))) ∙ by (scene.cast.at [])
   where
-    by : (o : Option ℕ) → called_text 0 (option_and_then (λ (r : ℕ). option_map (λ (k : ℕ). (slice_index_or cast.names r [], k)) (role_number [] r 0)) o) ++ codes " at the root" ≡ codes "thread 0 at the root"
+    part : Option ℕ → Option (List ℕ × ℕ)
+    part = option_and_then (λ (r : ℕ). option_map (λ (k : ℕ). (slice_index_or scene.cast.names r [], k)) (role_number [] r 0))
+
+    by : (o : Option ℕ) → called_text 0 (part o) ++ codes " at line 3" ≡ codes "thread 0 at line 3"
     by None = refl
     by (Some r) = refl
 
 pub returns-clause-one_line : goal.returns-clause-one_line
 unfolding digits
-returns-clause-one_line c = λ bytes cast f verdicts roles ends judged. record {
-  cast = cast;
-  roles = roles;
+returns-clause-one_line c = λ bytes scene f verdicts has ends here judged. record {
+  scene = scene;
+  in_file = has;
   lines = line.Nil 0 ∷ [];
   of_run = own (line.Nil 0 ∷ []);
   written = record {
     trace = [];
     draws = [];
-    told = codes "1. thread 0 at the root: 0 -- thread 0 ends\n";
+    told = codes "1. thread 0 at line 3: 0 -- thread 0 ends\n";
     run = rw ends (record {
       config = becomes (initial nil) 0 None;
       entries = [];
       marks = [];
-      run = told.further {lines = []} (line.Nil 0) [] [] (codes "1. thread 0 at the root: 0 -- thread 0 ends") starts (lines.ends 0 refl)
-          (record { doing = codes "0"; outcomes = codes "thread 0 ends" ∷ []; done = told.ends 0; written = rw (ended_so cast) refl });
+      run = told.further {lines = []} (line.Nil 0) [] [] (codes "1. thread 0 at line 3: 0 -- thread 0 ends") starts (lines.ends 0 refl)
+          (record { doing = codes "0"; outcomes = codes "thread 0 ends" ∷ []; done = told.ends 0; written = rw (ended_so scene here has.steps) refl });
     });
     verdicts = verdicts;
     judged = judged;
-    layout = ap (λ (v : List ℕ). codes "1. thread 0 at the root: 0 -- thread 0 ends\n" ++ 10 ∷ v) (sym (append-nil verdicts));
+    layout = ap (λ (v : List ℕ). codes "1. thread 0 at line 3: 0 -- thread 0 ends\n" ++ 10 ∷ v) (sym (append-nil verdicts));
   };
 }
 
@@ -88,7 +91,7 @@ none_of f _ _ (converted {rule_lines = rule_lines} lines c) e =
 pub returns-clause-no_lines : goal.returns-clause-no_lines
 returns-clause-no_lines c = λ bytes f text w.
     let none = none_of f (run.Rules []) w.lines w.of_run refl in
-    record { cast = w.cast; roles = w.roles; lines = []; of_run = own []; written = subst (λ (ls : List PStep). IsToldAndJudged f w.cast ls text) none w.written }
+    record { scene = w.scene; in_file = w.in_file; lines = []; of_run = own []; written = subst (λ (ls : List PStep). IsToldAndJudged f w.scene ls text) none w.written }
 
 -- what has a line feed in it isn't empty
 never_bare : (told verdicts : List ℕ) → [] ≡ told ++ 10 ∷ verdicts → ⊥

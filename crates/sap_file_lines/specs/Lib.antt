@@ -1,0 +1,4 @@
+pub mod FileLines
+pub mod Places
+pub mod LineExamples
+pub mod code

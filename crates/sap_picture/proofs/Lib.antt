@@ -1,0 +1,10 @@
+mod Pushed
+mod HeadsPushed
+mod Placing
+mod Cutting
+mod Marked
+mod Framed
+mod Formed
+mod NoDocuments
+mod ReadBack
+mod NotDrawn
