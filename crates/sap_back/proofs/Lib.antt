@@ -32,3 +32,4 @@ pub mod SomeRun
 pub mod OneRun
 pub mod DeskLines
 pub mod OneConverted
+pub mod StepsInTurn

@@ -9,7 +9,8 @@ use Rattle.sap_runs.specs.declared.process_step.PStep.TheVariants as line
 use Rattle.sap_runs.specs.declared.rule_step.RStep.{RStep}
 use Rattle.sap_runs.specs.declared.rule_step.RStep.TheVariants as rule_line
 use Rattle.sap_process_lines.specs.Tables.{ProcessTables}
-use Rattle.sap_back.specs.LineExamples.{given_rule_lines, given_shown, given_lines, copied_rule_lines, copied_shown, copied_lines, learned_rule_lines, learned_shown, learned_lines, embedded_rules, embedded_rule_lines, embedded_shown, embedded_lines}
+use Rattle.sap_opposite.specs.StepExamples.{sending_lines, sending_rule_lines, waiting_lines, waiting_rule_lines}
+use Rattle.sap_back.specs.LineExamples.{given_rule_lines, given_shown, given_lines, copied_rule_lines, copied_shown, copied_lines, learned_rule_lines, learned_shown, learned_lines, embedded_rules, embedded_rule_lines, embedded_shown, embedded_lines, sending_shown, waiting_shown}
 use Rattle.sap_back.specs.LinesFor.{uses, pending_lines, AreProcessLinesFor, AreProcessLinesForAll, no_lines, more, ProcessLinesStandInTurn}
 use Rattle.sap_back.proofs.OneConverted.{one_in_turn}
 
@@ -145,5 +146,32 @@ embedded =
       own = embedded_lines;
       last = _;
       each = more (AreProcessLinesFor.starts []) (more (AreProcessLinesFor.embeds 0 0 2 [] [] [] [] refl refl refl) (more (AreProcessLinesFor.embeds 0 1 0 (3 ∷ []) (1 ∷ []) (1 ∷ []) [] refl refl refl) no_lines));
+      is = refl;
+    })
+
+pub waiting : (rules : List Rule) (lines : List PStep) → ProcessLinesStandInTurn rules waiting_rule_lines waiting_shown lines ↔ (lines ≡ waiting_lines)
+waiting rules =
+    only rules waiting_rule_lines waiting_shown waiting_lines
+    (record {
+      own = line.New 0 0 ∷ line.Par 0 ∷ line.Public (codes "a") ∷ line.Out 1 ∷ line.Know 0 ∷ line.Event 0 ∷ line.In 1 1 ∷ [];
+      last = _;
+      each = more (AreProcessLinesFor.starts []) (more (AreProcessLinesFor.makes 0) (more (AreProcessLinesFor.makes_name 0 0 0 1 [] [] [] refl refl) (more (AreProcessLinesFor.splits 0 2 (1 ∷ []) [] [] refl)
+          (more (AreProcessLinesFor.writes (codes "a")) (more (AreProcessLinesFor.knows 0 0 refl) (more (AreProcessLinesFor.makes 1) (more (AreProcessLinesFor.outputs 1 4 (1 ∷ 2 ∷ []) [] [] refl)
+          (more (AreProcessLinesFor.learns 7 1 refl) (more (AreProcessLinesFor.shows 0 3 (1 ∷ 1 ∷ []) [] [] refl) (more (AreProcessLinesFor.knows 1 1 refl)
+          (more (AreProcessLinesFor.inputs 1 8 1 (1 ∷ 2 ∷ 1 ∷ []) (10 ∷ []) [] refl refl) (more (AreProcessLinesFor.knows 0 0 refl) no_lines))))))))))));
+      is = refl;
+    })
+
+pub sending : (rules : List Rule) (lines : List PStep) → ProcessLinesStandInTurn rules sending_rule_lines sending_shown lines ↔ (lines ≡ sending_lines)
+sending rules =
+    only rules sending_rule_lines sending_shown sending_lines
+    (record {
+      own = line.Par 0 ∷ line.Sync 0 1 ∷ line.Public (codes "c") ∷ line.Name 6 ∷ line.Send 1 0 ∷ line.Apply (codes "f") (0 ∷ []) ∷ line.Know 1 ∷ line.Rep 0 ∷ [];
+      last = _;
+      each = more (AreProcessLinesFor.starts []) (more (AreProcessLinesFor.splits 0 0 [] [] [] refl) (more (AreProcessLinesFor.makes 5) (more (AreProcessLinesFor.sends 0 1 (1 ∷ []) (3 ∷ []) [] refl)
+          (more (AreProcessLinesFor.meets 0 1 2 4 (2 ∷ []) [] [] refl refl) (more (AreProcessLinesFor.goes_on 0 5 (1 ∷ []) (6 ∷ []) [] refl) (more (AreProcessLinesFor.writes (codes "c")) (more (AreProcessLinesFor.knows 0 0 refl)
+          (more (AreProcessLinesFor.makes 6) (more (AreProcessLinesFor.owns 10 6 refl) (more (AreProcessLinesFor.outputs_on 1 7 0 (2 ∷ 1 ∷ []) (9 ∷ []) [] refl refl) (more (AreProcessLinesFor.knows 1 1 refl)
+          (more (AreProcessLinesFor.applies (codes "f") (0 ∷ []) (0 ∷ []) refl) (more (AreProcessLinesFor.starts_copies 0 8 (1 ∷ 1 ∷ []) [] [] refl) (more (AreProcessLinesFor.knows 2 3 refl)
+          (more (AreProcessLinesFor.copies 0 14 (1 ∷ 1 ∷ []) [] [] refl) no_lines)))))))))))))));
       is = refl;
     })

@@ -1,5 +1,6 @@
 pub mod Opposite
 pub mod LinesFor
+pub mod Steps
 pub mod LineExamples
 pub mod NamedIn
 pub mod Converted

@@ -75,3 +75,15 @@ embedded_shown = (init_fact ∷ []) ∷ [] ∷ [] ∷ []
 -- which is fact 1 of the process
 abbrev pub embedded_lines : List PStep
 embedded_lines = line.Embedded 0 [] [] ∷ line.Embedded 0 (1 ∷ []) [] ∷ []
+
+-- what the run shows whose `know` waits among silent lines: x is the term that is put out
+abbrev pub waiting_shown : Trace
+waiting_shown =
+    (init_fact ∷ []) ∷ [] ∷ [] ∷ [] ∷ [] ∷ (k_fact (public (codes "a")) ∷ []) ∷ [] ∷ [] ∷ [] ∷ (event_fact ∷ []) ∷ (k_fact (public (codes "x")) ∷ [])
+    ∷ (input_fact (public (codes "x")) ∷ []) ∷ (k_fact (public (codes "a")) ∷ []) ∷ []
+
+-- and the one with a channel
+abbrev pub sending_shown : Trace
+sending_shown =
+    (init_fact ∷ []) ∷ [] ∷ [] ∷ [] ∷ [] ∷ [] ∷ [] ∷ (k_fact (public (codes "c")) ∷ []) ∷ [] ∷ [] ∷ (input_fact (public (codes "c")) ∷ [])
+    ∷ (k_fact (public (codes "n")) ∷ []) ∷ [] ∷ [] ∷ (k_fact (public (codes "m")) ∷ []) ∷ [] ∷ []

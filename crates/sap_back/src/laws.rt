@@ -3,10 +3,13 @@ ghost use Rattle.std.specs.Prelude.{All, ℕ, List, [], ◌∷◌, Some, None, c
 ghost use Rattle.sap_back.specs.Along.{BeginsAlong};
 ghost use Rattle.sap_back.specs.Followed.{BeginsTabled, EndsTabled, LinesAreFollowed};
 ghost use Rattle.sap_back.specs.Converted.{IsConvertedToProcess};
-ghost use Rattle.sap_back.specs.LineExamples.{copied_lines, copied_rule_lines, copied_shown, embedded_lines, embedded_rule_lines, embedded_rules, embedded_shown, given_lines, given_rule_lines, given_shown, learned_lines, learned_rule_lines, learned_shown};
+ghost use Rattle.sap_back.specs.LineExamples.{copied_lines, copied_rule_lines, copied_shown, embedded_lines, embedded_rule_lines, embedded_rules, embedded_shown, given_lines, given_rule_lines, given_shown, learned_lines, learned_rule_lines, learned_shown, sending_shown, waiting_shown};
 ghost use Rattle.sap_back.specs.LinesFor.{pending_lines, uses, AreProcessLinesFor, AreProcessLinesForAll, ProcessLinesStandInTurn};
 ghost use Rattle.sap_back.specs.NamedIn.{IsNamedIn};
 ghost use Rattle.sap_back.specs.Opposite.{HasOppositeProcessRuns};
+ghost use Rattle.sap_back.specs.Steps.{steps_in_turn};
+ghost use Rattle.sap_opposite.specs.StepExamples.{sending_lines, sending_rule_lines, waiting_lines, waiting_rule_lines};
+ghost use Rattle.sap_opposite.specs.Steps.{opposite_steps};
 ghost use Rattle.sap_locks.specs.Annotation.{IsAnnotation};
 ghost use Rattle.sap_process.specs.Proc.{Proc, node_count};
 ghost use Rattle.sap_process.specs.Ready.{IsReady};
@@ -191,4 +194,20 @@ pub fn numbers_by_hand()
         → ProcessLinesStandInTurn rules learned_rule_lines learned_shown lines ↔ (lines ≡ learned_lines) }
     ensures embedded { (lines : List PStep)
         → ProcessLinesStandInTurn embedded_rules embedded_rule_lines embedded_shown lines ↔ (lines ≡ embedded_lines) }
+{}
+
+/// A law: where lines of the process stand in turn, each is opposite to the line of rules that it was written for, and a `know` to the one
+/// that gave its entry, as `opposite_steps` counts them from what is written alone.
+pub fn steps_are_counted()
+    ensures { (rules : List Rule) (rule_lines : List RStep) (full : Trace) (lines : List PStep)
+        → (turns : ProcessLinesStandInTurn rules rule_lines full lines)
+        → opposite_steps rule_lines lines ≡ steps_in_turn turns }
+{}
+
+/// A law: the runs by which `opposite_steps` is tried by hand have these lines, and no others.
+pub fn counted_runs_by_hand()
+    ensures waiting { (rules : List Rule) (lines : List PStep)
+        → ProcessLinesStandInTurn rules waiting_rule_lines waiting_shown lines ↔ (lines ≡ waiting_lines) }
+    ensures sending { (rules : List Rule) (lines : List PStep)
+        → ProcessLinesStandInTurn rules sending_rule_lines sending_shown lines ↔ (lines ≡ sending_lines) }
 {}

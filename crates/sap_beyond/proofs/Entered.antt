@@ -1,55 +1,40 @@
 -- From the whole into the bodies of definitions.
-use Rattle.std.proofs.Common.{◌≡◌, ◌<◌, ◌≤◌, ℕ, ◌-◌, ◌^◌, min, List, [], Option, None, Some, sym, ap, subst, ◌∙◌, arith}
+use Rattle.std.proofs.Common.{◌≡◌, ◌<◌, ◌≤◌, ℕ, ◌-◌, ◌^◌, List, [], Option, None, Some, sym, ap, subst, ◌∙◌, arith}
 use Rattle.std.specs.Prelude.{MatchOption}
-use Rattle.sap_terms.specs.NameMap.{value_at}
-use Rattle.sap_terms.specs.Tree.{Tree}
-use Rattle.sap_process.specs.Proc.{level_count, node_count}
 use Rattle.sap_macro.specs.Expansion.{expansion}
 use Rattle.sap_macro.specs.Indexed.{IsDefined, defined}
-use Rattle.sap_macro.specs.KeptSizes.{levels_kept, nodes_kept}
 use Rattle.sap_macro.specs.Order.{AreInOrder, UsesOnly}
 use Rattle.sap_macro.specs.Walked.{steps}
-use Rattle.sap_macro.specs.Written.{Written, call, Definition}
-use Rattle.sap_macro.specs.declared.sizes.Size.{Size}
+use Rattle.sap_macro.specs.Written.{Written, Definition}
 use Rattle.sap_beyond.specs.Numbered.{IsFirstDeep, IsNumbered}
-use Rattle.sap_beyond.specs.code.Shapes.{Shape, depth, place_count, shape, shape_in, shaped, stands}
+use Rattle.sap_beyond.specs.code.Shapes.{Shape, shape, shape_in, shaped, stands}
 use Rattle.sap_beyond.specs.code.Steps.{AreKept, ComesTo, IsFound, Leads, Uses, extent, steps_at, steps_of, wanted_at}
 use Rattle.sap_beyond.specs.declared.beyond.By.{By}
 use Rattle.sap_beyond.specs.declared.beyond.By.TheVariants.{Number, Digits}
 use Rattle.sap_beyond.specs.declared.beyond.Step.{Step}
 use Rattle.sap_beyond.specs.declared.beyond.Step.TheVariants.{Past, Here, In}
+use Rattle.sap_beyond.proofs.Indices.{taken_known}
 use Rattle.sap_beyond.proofs.Kept.{body_shape, body_steps, body_uses}
-use Rattle.sap_beyond.proofs.Listed.{levels_are, nodes_are}
 use Rattle.sap_beyond.proofs.Numbered.{is_deep, is_numbered, not_deep, not_numbered}
 
 -- what the law of shapes says
 abbrev pub ShapesAreOne : Type 0
 ShapesAreOne = (ds : List Definition) (p : Written) (identifiers : List (List ℕ)) → AreInOrder [] ds → UsesOnly (defined ds) p → shape (expansion ds identifiers p).process ≡ shape_in ds p
 
--- what is kept of a use is right
-pub kept_right : ShapesAreOne → (ds : List Definition) → AreInOrder [] ds → (sizes : List (List ℕ × Size))
-    → ((f : List ℕ) (ts : List Tree) (identifiers : List (List ℕ)) → nodes_kept (value_at sizes f) ≡ min (node_count (expansion ds identifiers (call f ts)).process) (2 ^ 64 - 1))
-    → ((f : List ℕ) (ts : List Tree) (identifiers : List (List ℕ)) → levels_kept (value_at sizes f) ≡ min (level_count (expansion ds identifiers (call f ts)).process) (2 ^ 64 - 1))
-    → (by : By) → AreKept by (stands ds) (defined ds) sizes
-kept_right law ds order sizes nodes levels Number f known =
-    nodes f [] [] ∙ ap (λ n. min n (2 ^ 64 - 1)) (nodes_are (expansion ds [] (call f [])).process ∙ ap place_count (law ds (call f []) [] order known))
-kept_right law ds order sizes nodes levels Digits f known =
-    levels f [] [] ∙ ap (λ n. min n (2 ^ 64 - 1)) (levels_are (expansion ds [] (call f [])).process ∙ ap depth (law ds (call f []) [] order known))
-
 -- what a walk from a process tells of all definitions
-abbrev LooksSo : By → List (List ℕ × Size) → Written → List ℕ → ℕ → List ℕ → Step → Type 0
-LooksSo by sizes w from k to step =
-    (c : List ℕ → Shape) (names : List (List ℕ)) → AreKept by c names sizes → UsesOnly names w → Leads by c from from (shaped c w) k to step
+abbrev LooksSo : By → List (List ℕ × ℕ) → List ℕ → Written → List ℕ → ℕ → List ℕ → Step → Type 0
+LooksSo by index extents w from k to step =
+    (c : List ℕ → Shape) (names : List (List ℕ)) → AreKept by c names index extents → UsesOnly names w → Leads by c from from (shaped c w) k to step
 
-module _ (by : By) (ds : List Definition) (sizes : List (List ℕ × Size)) (kept : AreKept by (stands ds) (defined ds) sizes) where
+module _ (by : By) (ds : List Definition) (index : List (List ℕ × ℕ)) (extents : List ℕ) (kept : AreKept by (stands ds) (defined ds) index extents) where
   -- from the root
   begins : (w : Written) (k : ℕ) (to : List ℕ) (step : Step) → UsesOnly (defined ds) w → k < 2 ^ 64 - 1 → wanted_at step ≤ k → Uses w step
       → Leads by (stands ds) [] [] (shape_in ds w) k to step → ComesTo by ds (shape_in ds w) k to step
   begins w k to (Past left) only small less u h = h.0
   begins w k to Here only small less u h = h
-  begins w k to (In f left) only small less u h = (h.0, omega (arith, small, less), u.known (defined ds) only, h.1)
+  begins w k to (In f at left) only small less u h = (h.0, omega (arith, small, less), u.known (defined ds) only, h.1)
 
-  pub begins_so : (w : Written) (k : ℕ) (to : List ℕ) (step : Step) → UsesOnly (defined ds) w → k < 2 ^ 64 - 1 → wanted_at step ≤ k → Uses w step → LooksSo by sizes w [] k to step
+  pub begins_so : (w : Written) (k : ℕ) (to : List ℕ) (step : Step) → UsesOnly (defined ds) w → k < 2 ^ 64 - 1 → wanted_at step ≤ k → Uses w step → LooksSo by index extents w [] k to step
       → ComesTo by ds (shape_in ds w) k to step
   begins_so w k to step only small less u h = begins w k to step only small less u (h (stands ds) (defined ds) kept only)
 
@@ -60,16 +45,16 @@ module _ (by : By) (ds : List Definition) (sizes : List (List ℕ × Size)) (kep
       let past : extent by b ≤ j = h.0 in
       absurd (omega (arith, past, within))
   goes_on s k b w from j to Here only small less u h within on = on to h
-  goes_on s k b w from j to (In f left) only small less u h within on = (h.0, omega (arith, small, less), u.known (defined ds) only, λ path found. on path (h.1 path found))
+  goes_on s k b w from j to (In f at left) only small less u h within on = (h.0, omega (arith, small, less), u.known (defined ds) only, λ path found. on path (h.1 path found))
 
   module _ (order : AreInOrder [] ds) (name : List ℕ) (d : Definition) (is : IsDefined ds name d) (w : Written) (body : w ≡ d.body) where
     same_shape : stands ds name ≡ shape_in ds w
     same_shape = ap (stands ds) (sym is.name_is) ∙ body_shape ds is.at d order is.stands ∙ ap (shaped (stands ds)) (sym body)
 
     only : UsesOnly (defined ds) w
-    only = subst (UsesOnly (defined ds)) (sym body) (body_uses ds [] (defined ds) is.at d order is.stands (λ f none. absurd (cc (none))) (λ f known. known))
+    only = subst (UsesOnly (defined ds)) (sym body) (body_uses ds [] (defined ds) is.at d order is.stands (λ f none. absurd (cc (none))) (λ f known. taken_known ds is.at f known))
 
-    pub goes_in : (from : List ℕ) (j : ℕ) (to : List ℕ) (step : Step) → j < 2 ^ 64 - 1 → wanted_at step ≤ j → Uses w step → LooksSo by sizes w from j to step
+    pub goes_in : (from : List ℕ) (j : ℕ) (to : List ℕ) (step : Step) → j < 2 ^ 64 - 1 → wanted_at step ≤ j → Uses w step → LooksSo by index extents w from j to step
         → (s : Shape) (k : ℕ) → j < extent by (stands ds name) → ((path : List ℕ) → IsFound by from (stands ds name) j path → IsFound by [] s k path) → ComesTo by ds s k to step
     goes_in from j to step small less u h s k within on =
         goes_on s k (stands ds name) w from j to step only small less u
@@ -81,7 +66,7 @@ module _ (by : By) (ds : List Definition) (sizes : List (List ℕ × Size)) (kep
     pub further : (step : Step) → Uses w step → steps_at ds step ≤ steps_of ds name
     further (Past left) u = omega arith
     further Here u = omega arith
-    further (In f left) u =
+    further (In f at left) u =
         let less : steps_of ds f.now < steps (steps_of ds) w = u.less (steps_of ds) in
         let same = same_steps in
         omega (arith, less, same)

@@ -21,12 +21,12 @@ one_more from e = length-append from (e ∷ [])
 
 -- ---- lists
 
-got_left : {A : Type 0} (xs ys : List A) (k : ℕ) (x : A) → slice_get xs k ≡ Some x → slice_get (xs ++ ys) k ≡ Some x
+pub got_left : {A : Type 0} (xs ys : List A) (k : ℕ) (x : A) → slice_get xs k ≡ Some x → slice_get (xs ++ ys) k ≡ Some x
 got_left [] ys k x e = absurd (cc (e))
 got_left (y ∷ xs) ys zero x e = e
 got_left (y ∷ xs) ys (suc k) x e = got_left xs ys k x e
 
-got_right : {A : Type 0} (xs ys : List A) (k : ℕ) (x : A) → length xs ≤ k → slice_get ys (k - length xs) ≡ Some x → slice_get (xs ++ ys) k ≡ Some x
+pub got_right : {A : Type 0} (xs ys : List A) (k : ℕ) (x : A) → length xs ≤ k → slice_get ys (k - length xs) ≡ Some x → slice_get (xs ++ ys) k ≡ Some x
 got_right [] ys k x h e = let same : k - 0 ≡ k = omega arith in subst (λ n. slice_get ys n ≡ Some x) same e
 got_right (y ∷ xs) ys zero x h e = absurd (omega arith)
 got_right (y ∷ xs) ys (suc k) x h e =
@@ -146,7 +146,7 @@ some_first by from s t j r = record { path = r.path; found = subst (λ n. IsFoun
 some_second : (by : By) (from : List ℕ) (s t : Shape) (j : ℕ) → extent by s ≤ j → Some_found by (from ++ 2 ∷ []) t (left_behind by j s) → Some_found by from (two s t) (suc j)
 some_second by from s t j past r = record { path = r.path; found = subst (λ n. IsFound by from (two s t) n r.path) (add-one j) (in_second by from s t j r.path past r.found) }
 
-less_or_not : (a b : ℕ) → (a < b) ⊎ (b ≤ a)
+pub less_or_not : (a b : ℕ) → (a < b) ⊎ (b ≤ a)
 less_or_not zero zero = inr (omega arith)
 less_or_not zero (suc b) = inl (omega arith)
 less_or_not (suc a) zero = inr (omega arith)

@@ -1,5 +1,5 @@
 -- What is kept of names behind definitions in order.
-use Rattle.std.proofs.Common.{◌≡◌, ℕ, zero, suc, ◌+◌, Bool, true, false, List, [], ◌∷◌, Some, refl, sym, ap, subst, ◌∙◌}
+use Rattle.std.proofs.Common.{◌≡◌, ℕ, zero, suc, ◌+◌, Bool, true, false, List, [], ◌∷◌, Some, take, refl, sym, ap, subst, ◌∙◌}
 use Rattle.std.specs.Prelude.{◌||◌, if◌then◌else◌, slice_get}
 use Rattle.std.specs.Str.{bytes_eq}
 use Rattle.sap_terms.specs.Variables.{is_known}
@@ -15,7 +15,7 @@ use Rattle.sap_beyond.specs.code.Steps.{steps_of}
 other_name : (known : List (List ℕ)) (d f : List ℕ) → is_known known d ≡ false → is_known known f ≡ true → bytes_eq d f ≡ false
 other_name known d f none some = apart d f (λ same. clash (is_known known f) some (subst (λ g. is_known known g ≡ false) same none))
 
-never_again : (ds : List Definition) (known : List (List ℕ)) (f : List ℕ) → AreInOrder known ds → is_known known f ≡ true → is_known (defined ds) f ≡ false
+pub never_again : (ds : List Definition) (known : List (List ℕ)) (f : List ℕ) → AreInOrder known ds → is_known known f ≡ true → is_known (defined ds) f ≡ false
 never_again [] known f order h = refl
 never_again (d ∷ ds) known f order h =
     out_of f d.name (defined ds) (other_name known d.name f order.0 h) (never_again ds (d.name ∷ known) f order.1.1 (in_tail f d.name known h))
@@ -69,7 +69,7 @@ body_shape ds k d order e = kept_is shaped shapes_agree ds (λ f. leaf) [] k d o
 pub body_steps : (ds : List Definition) (k : ℕ) (d : Definition) → AreInOrder [] ds → slice_get ds k ≡ Some d → steps_of ds d.name ≡ steps (steps_of ds) d.body
 body_steps ds k d order e = kept_is steps steps_agree ds (λ f. 0) [] k d order e
 
--- a body uses names that are defined
+-- a body uses names that are known
 uses_more : (known names : List (List ℕ)) → ((f : List ℕ) → is_known known f ≡ true → is_known names f ≡ true) → (w : Written) → UsesOnly known w → UsesOnly names w
 uses_more known names hold nil u = tt
 uses_more known names hold (call f ts) u = hold f u
@@ -87,12 +87,13 @@ either d f known names own hold h = by (bytes_eq d f) refl h
     by true e g = subst (λ x. is_known names x ≡ true) (one_name d f e) own
     by false e g = hold f (rw e at g)
 
+-- those of the definitions before it
 pub body_uses : (ds : List Definition) (known names : List (List ℕ)) (k : ℕ) (d : Definition) → AreInOrder known ds → slice_get ds k ≡ Some d
-    → ((f : List ℕ) → is_known known f ≡ true → is_known names f ≡ true) → ((f : List ℕ) → is_known (defined ds) f ≡ true → is_known names f ≡ true) → UsesOnly names d.body
+    → ((f : List ℕ) → is_known known f ≡ true → is_known names f ≡ true) → ((f : List ℕ) → is_known (defined (take k ds)) f ≡ true → is_known names f ≡ true) → UsesOnly names d.body
 body_uses [] known names k d order e old new = absurd (cc (e))
 body_uses (b ∷ ds) known names zero d order e old new =
     let same : b ≡ d = cc (e) in
     subst (λ (a : Definition). UsesOnly names a.body) same (uses_more known names old b.body order.1.0)
 body_uses (b ∷ ds) known names (suc k) d order e old new =
     body_uses ds (b.name ∷ known) names k d order.1.1 e
-    (λ f h. either b.name f known names (new b.name (in_head b.name (defined ds))) old h) (λ f h. new f (in_tail f b.name (defined ds) h))
+    (λ f h. either b.name f known names (new b.name (in_head b.name (defined (take k ds)))) old h) (λ f h. new f (in_tail f b.name (defined (take k ds)) h))

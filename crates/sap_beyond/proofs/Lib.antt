@@ -1,6 +1,7 @@
 pub mod Found
 pub mod Listed
 pub mod Kept
+pub mod Indices
 pub mod Meant
 pub mod SameShape
 pub mod Numbered

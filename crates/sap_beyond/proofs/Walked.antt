@@ -1,13 +1,12 @@
 -- Steps of a walk.
-use Rattle.std.proofs.Common.{◌≡◌, ◌≤◌, ℕ, ◌+◌, ◌-◌, ◌^◌, min, true, List, [], ◌∷◌, ◌++◌, refl, sym, ap, subst, inl, inr, ⊎_elim, arith}
+use Rattle.std.proofs.Common.{◌≡◌, ◌≤◌, ℕ, ◌+◌, ◌-◌, ◌^◌, min, true, List, [], ◌∷◌, ◌++◌, Some, refl, sym, ap, subst, inl, inr, ⊎_elim, arith}
 use Rattle.sap_terms.specs.NameMap.{value_at}
 use Rattle.sap_terms.specs.Tree.{Tree}
 use Rattle.sap_terms.specs.Variables.{is_known}
 use Rattle.sap_macro.specs.Order.{UsesOnly}
 use Rattle.sap_macro.specs.Written.{Written, nil, call}
-use Rattle.sap_macro.specs.declared.sizes.Size.{Size}
 use Rattle.sap_beyond.specs.code.Shapes.{Shape, leaf, one, two, shaped}
-use Rattle.sap_beyond.specs.code.Steps.{AreKept, IsFound, IsOver, IsOverBoth, IsUsed, Leads, Names, Uses, UsesOf, extent, extent_kept, left_behind, passed, wanted_at}
+use Rattle.sap_beyond.specs.code.Steps.{AreKept, IsFound, IsOver, IsOverBoth, IsUsed, Leads, Names, Uses, UsesOf, extent, kept_at, left_behind, passed, wanted_at}
 use Rattle.sap_beyond.specs.declared.beyond.By.{By}
 use Rattle.sap_beyond.specs.declared.beyond.By.TheVariants.{Number, Digits}
 use Rattle.sap_beyond.specs.declared.beyond.Step.{Step}
@@ -16,10 +15,10 @@ use Rattle.sap_beyond.proofs.Found.{found_here, in_first, in_one, in_second}
 
 -- ---- uses
 
-pub of_use : (by : By) (c : List ℕ → Shape) (names : List (List ℕ)) (sizes : List (List ℕ × Size)) (w : Written) (f : List ℕ) (ts : List Tree) (k : ℕ) (from : List ℕ) (step : Step)
-    → w ≡ call f ts → AreKept by c names sizes → UsesOnly names w
-    → (extent_kept by (value_at sizes f) ≡ min (extent by (c f)) (2 ^ 64 - 1) → Leads by c from from (c f) k from step) → Leads by c from from (shaped c w) k from step
-of_use by c names sizes w f ts k from step e kept uses h =
+pub of_use : (by : By) (c : List ℕ → Shape) (names : List (List ℕ)) (index : List (List ℕ × ℕ)) (extents : List ℕ) (w : Written) (f : List ℕ) (ts : List Tree) (k : ℕ) (from : List ℕ) (step : Step)
+    → w ≡ call f ts → AreKept by c names index extents → UsesOnly names w
+    → (kept_at extents (value_at index f) ≡ Some (min (extent by (c f)) (2 ^ 64 - 1)) → Leads by c from from (c f) k from step) → Leads by c from from (shaped c w) k from step
+of_use by c names index extents w f ts k from step e kept uses h =
     let known : is_known names f ≡ true = subst (UsesOnly names) e uses in
     subst (λ s. Leads by c from from s k from step) (sym (ap (shaped c) e)) (h (kept f known))
 
@@ -29,7 +28,7 @@ use_of w f ts e = subst (λ u. IsUsed u f) (sym e) (record { known = λ names u.
 pub uses_it : (w : Written) (f : List ℕ) (ts : List Tree) (step : Step) → w ≡ call f ts → Names step f → Uses w step
 uses_it w f ts (Past left) e h = tt
 uses_it w f ts Here e h = tt
-uses_it w f ts (In g left) e h = subst (IsUsed w) (sym h) (use_of w f ts e)
+uses_it w f ts (In g at left) e h = subst (IsUsed w) (sym h) (use_of w f ts e)
 
 above_one : (w p : Written) (f : List ℕ) → IsOver w p → IsUsed p f → IsUsed w f
 above_one w p f over u = record {
@@ -40,10 +39,10 @@ above_one w p f over u = record {
 pub uses_above : (by : By) (w p : Written) (step : Step) → IsOver w p → Uses p step → Uses w (passed by step)
 uses_above Number w p (Past left) over u = tt
 uses_above Number w p Here over u = tt
-uses_above Number w p (In f left) over u = above_one w p f.now over u
+uses_above Number w p (In f at left) over u = above_one w p f.now over u
 uses_above Digits w p (Past left) over u = tt
 uses_above Digits w p Here over u = tt
-uses_above Digits w p (In f left) over u = above_one w p f.now over u
+uses_above Digits w p (In f at left) over u = above_one w p f.now over u
 
 above_first : (w p q : Written) (f : List ℕ) → IsOverBoth w p q → IsUsed p f → IsUsed w f
 above_first w p q f over u = record {
@@ -60,20 +59,20 @@ above_second w p q f over u = record {
 pub uses_above_both : (by : By) (w p q : Written) (step : Step) → IsOverBoth w p q → UsesOf p q step → Uses w (passed by step)
 uses_above_both Number w p q (Past left) over u = tt
 uses_above_both Number w p q Here over u = tt
-uses_above_both Number w p q (In f left) over u = ⊎_elim (above_first w p q f.now over) (above_second w p q f.now over) u
+uses_above_both Number w p q (In f at left) over u = ⊎_elim (above_first w p q f.now over) (above_second w p q f.now over) u
 uses_above_both Digits w p q (Past left) over u = tt
 uses_above_both Digits w p q Here over u = tt
-uses_above_both Digits w p q (In f left) over u = ⊎_elim (above_first w p q f.now over) (above_second w p q f.now over) u
+uses_above_both Digits w p q (In f at left) over u = ⊎_elim (above_first w p q f.now over) (above_second w p q f.now over) u
 
 pub uses_first : (p q : Written) (step : Step) → Uses p step → UsesOf p q step
 uses_first p q (Past left) u = tt
 uses_first p q Here u = tt
-uses_first p q (In f left) u = inl u
+uses_first p q (In f at left) u = inl u
 
 pub uses_second : (p q : Written) (step : Step) → Uses q step → UsesOf p q step
 uses_second p q (Past left) u = tt
 uses_second p q Here u = tt
-uses_second p q (In f left) u = inr u
+uses_second p q (In f at left) u = inr u
 
 -- ---- from a place down
 
@@ -99,21 +98,21 @@ one_next Digits c from s k to (Past left) h =
     (omega (arith, past), omega (arith, is), h.2)
 one_next Number c from s k to Here h = in_one Number from s k to h
 one_next Digits c from s k to Here h = in_one Digits from s k to h
-one_next Number c from s k to (In f left) h = (h.0, λ path found. in_one Number from s k path (h.1 path found))
-one_next Digits c from s k to (In f left) h = (h.0, λ path found. in_one Digits from s k path (h.1 path found))
+one_next Number c from s k to (In f at left) h = (h.0, λ path found. in_one Number from s k path (h.1 path found))
+one_next Digits c from s k to (In f at left) h = (h.0, λ path found. in_one Digits from s k path (h.1 path found))
 
 -- it isn't past
 abbrev pub IsNotPast : Step → Type 0
 IsNotPast (Past left) = ⊥
 IsNotPast Here = Unit {0}
-IsNotPast (In f left) = Unit {0}
+IsNotPast (In f at left) = Unit {0}
 
 pub first_next : (by : By) (c : List ℕ → Shape) (from : List ℕ) (s t : Shape) (k : ℕ) (to : List ℕ) (step : Step) → IsNotPast step → Leads by c from (from ++ 1 ∷ []) s k to step → Next by c from (two s t) k to step
 first_next by c from s t k to (Past left) on h = absurd on
 first_next Number c from s t k to Here on h = in_first Number from s t k to h
 first_next Digits c from s t k to Here on h = in_first Digits from s t k to h
-first_next Number c from s t k to (In f left) on h = (h.0, λ path found. in_first Number from s t k path (h.1 path found))
-first_next Digits c from s t k to (In f left) on h = (h.0, λ path found. in_first Digits from s t k path (h.1 path found))
+first_next Number c from s t k to (In f at left) on h = (h.0, λ path found. in_first Number from s t k path (h.1 path found))
+first_next Digits c from s t k to (In f at left) on h = (h.0, λ path found. in_first Digits from s t k path (h.1 path found))
 
 pub second_next : (by : By) (c : List ℕ → Shape) (from : List ℕ) (s t : Shape) (k left : ℕ) (at to : List ℕ) (step : Step) → Leads by c from (from ++ 1 ∷ []) s k at (Past left)
     → Leads by c at (at ++ 2 ∷ []) t left to step → Next by c from (two s t) k to step
@@ -133,8 +132,8 @@ second_next by c from s t k left at to step h g = go by step h.0 same
         (omega (arith, past, more), omega (arith, is), r.2)
     go Number Here past r = in_second Number from s t k to past r
     go Digits Here past r = in_second Digits from s t k to past r
-    go Number (In f rest) past r = (r.0, λ path found. in_second Number from s t k path past (r.1 path found))
-    go Digits (In f rest) past r = (r.0, λ path found. in_second Digits from s t k path past (r.1 path found))
+    go Number (In f at rest) past r = (r.0, λ path found. in_second Number from s t k path past (r.1 path found))
+    go Digits (In f at rest) past r = (r.0, λ path found. in_second Digits from s t k path past (r.1 path found))
 
 -- ---- at what is written
 
@@ -159,12 +158,12 @@ module _ (by : By) (c : List ℕ → Shape) (from : List ℕ) (w : Written) (k j
 pub less_next : (by : By) (step : Step) (j k : ℕ) → wanted_at step ≤ j → k ≡ j + 1 → wanted_at (passed by step) ≤ k
 less_next Number (Past left) j k h e = omega (arith, h, e)
 less_next Number Here j k h e = omega arith
-less_next Number (In f left) j k h e = omega (arith, h, e)
+less_next Number (In f at left) j k h e = omega (arith, h, e)
 less_next Digits (Past left) j k h e = omega (arith, h, e)
 less_next Digits Here j k h e = omega arith
-less_next Digits (In f left) j k h e = omega (arith, h, e)
+less_next Digits (In f at left) j k h e = omega (arith, h, e)
 
 pub not_past : (step : Step) → ((left : ℕ) → step ≡ Past left → ⊥) → IsNotPast step
 not_past (Past left) h = h left refl
 not_past Here h = tt
-not_past (In f left) h = tt
+not_past (In f at left) h = tt

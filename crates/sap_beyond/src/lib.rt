@@ -3,6 +3,7 @@
 
 mod beyond;
 mod by_hand;
+mod extents;
 mod laws;
 
 pub use beyond::{level_beyond, place_beyond};

@@ -6,6 +6,7 @@ use Rattle.sap_cures.specs.Tests.{WordRow, any_name, any_number, any_word, capit
 unfoldable pub condition_rows : List WordRow
 condition_rows =
     (this (codes "as") ∷ [], one_of (codes "~" ∷ codes "$" ∷ []) ∷ [], codes "Write the name behind as without a sign.") ∷
+    (this (codes "as") ∷ [], this (codes "in") ∷ [], codes "Write the name to bind between as and in.") ∷
     (this (codes "as") ∷ any_name ∷ [], one_of (codes ";" ∷ codes "then" ∷ []) ∷ [], codes "Write in behind the name.") ∷
     (this (codes "as") ∷ any_name ∷ [], one_of action_words ∷ [], codes "Write in behind the name.") ∷
     (this (codes "lookup") ∷ simple ∷ [], this (codes "in") ∷ [], codes "Write as and the name to bind before in.") ∷
@@ -51,30 +52,41 @@ term_rows =
 -- of parentheses
 unfoldable pub parenthesis_rows : List WordRow
 parenthesis_rows =
+    (this (codes "as") ∷ any_name ∷ this (codes "in") ∷ this (codes "(") ∷ any_name ∷ [], this (codes ";") ∷ [], codes "Put what follows into the definition: behind the use of a process no other stands.") ∷
     ([], this (codes ",") ∷ one_of action_words ∷ [], codes "Write ; for the comma.") ∷
-    (this (codes "event") ∷ capital_name ∷ this (codes "(") ∷ small_name ∷ this (codes "(") ∷ any_word ∷ this (codes ")") ∷ [], this (codes ";") ∷ [], codes "Write a ) before it: a parenthesis is open.") ∷
-    (one_of (codes "out" ∷ codes "in" ∷ []) ∷ this (codes "(") ∷ small_name ∷ this (codes "(") ∷ any_word ∷ this (codes ")") ∷ [], this (codes ";") ∷ [], codes "Write a ) before it: a parenthesis is open.") ∷
-    (one_of (codes "out" ∷ codes "in" ∷ []) ∷ this (codes "(") ∷ small_name ∷ this (codes "(") ∷ any_word ∷ this (codes ",") ∷ any_word ∷ this (codes ")") ∷ [], this (codes ";") ∷ [], codes "Write a ) before it: a parenthesis is open.") ∷
     (one_of (codes "out" ∷ codes "in" ∷ []) ∷ this (codes "(") ∷ any_name ∷ [], this (codes ";") ∷ [], codes "Write a ) before it: a parenthesis is open.") ∷
     (this (codes "event") ∷ capital_name ∷ this (codes "(") ∷ any_name ∷ [], one_of (codes ";" ∷ codes "end" ∷ []) ∷ [], codes "Write a ) before it: a parenthesis is open.") ∷
-    (this (codes "(") ∷ this (codes ")") ∷ this (codes ")") ∷ [], this (codes ";") ∷ [], codes "Put what follows into the parentheses: behind them no process stands.") ∷
-    (one_of (codes "out" ∷ codes "in" ∷ []) ∷ this (codes "(") ∷ any_word ∷ this (codes ")") ∷ this (codes ")") ∷ [], this (codes ";") ∷ [], codes "Put what follows into the parentheses: behind them no process stands.") ∷
-    (this (codes "event") ∷ capital_name ∷ this (codes "(") ∷ any_word ∷ this (codes ")") ∷ this (codes ")") ∷ [], this (codes ";") ∷ [], codes "Put what follows into the parentheses: behind them no process stands.") ∷
-    (any_number ∷ this (codes ")") ∷ [], this (codes ";") ∷ [], codes "Put what follows into the parentheses: behind them no process stands.") ∷
-    (one_of (codes "|" ∷ codes "||" ∷ []) ∷ any_name ∷ this (codes ")") ∷ [], this (codes ";") ∷ [], codes "Put what follows into the parentheses: behind them no process stands.") ∷
     (one_of (codes ";" ∷ codes ":" ∷ codes "|" ∷ codes "||" ∷ codes "then" ∷ codes "else" ∷ codes "!" ∷ []) ∷ any_name ∷ [], this (codes ";") ∷ [], codes "Put what follows into the definition: behind the use of a process no other stands.") ∷
-    (one_of (codes ";" ∷ codes ":" ∷ codes "|" ∷ codes "||" ∷ codes "then" ∷ codes "else" ∷ codes "!" ∷ []) ∷ any_name ∷ this (codes "(") ∷ any_word ∷ this (codes ")") ∷ [], this (codes ";") ∷ [], codes "Put what follows into the definition: behind the use of a process no other stands.") ∷
+    (this (codes "let") ∷ any_name ∷ this (codes "=") ∷ any_name ∷ [], this (codes ";") ∷ [], codes "Put what follows into the definition: behind the use of a process no other stands.") ∷
+    (this (codes "as") ∷ any_name ∷ this (codes "in") ∷ any_name ∷ [], this (codes ";") ∷ [], codes "Put what follows into the definition: behind the use of a process no other stands.") ∷
+    (one_of (codes ";" ∷ codes ":" ∷ codes "=" ∷ codes "|" ∷ codes "||" ∷ codes "then" ∷ codes "else" ∷ codes "!" ∷ []) ∷ this (codes "(") ∷ any_name ∷ [], this (codes ";") ∷ [], codes "Put what follows into the definition: behind the use of a process no other stands.") ∷
     (any_number ∷ [], this (codes ";") ∷ [], codes "Leave out the 0, or what follows it: 0 ends a process.") ∷
-    (this (codes "event") ∷ capital_name ∷ this (codes "(") ∷ this (codes ")") ∷ [], this (codes ")") ∷ [], codes "Leave this ) out: no parenthesis is open.") ∷
-    (this (codes "event") ∷ capital_name ∷ this (codes "(") ∷ any_word ∷ this (codes ")") ∷ [], this (codes ")") ∷ [], codes "Leave this ) out: no parenthesis is open.") ∷
-    (this (codes "event") ∷ capital_name ∷ this (codes "(") ∷ small_name ∷ this (codes "(") ∷ any_word ∷ this (codes ")") ∷ this (codes ")") ∷ [], this (codes ")") ∷ [], codes "Leave this ) out: no parenthesis is open.") ∷
-    (one_of (codes "out" ∷ codes "in" ∷ []) ∷ this (codes "(") ∷ any_word ∷ this (codes ")") ∷ [], this (codes ")") ∷ [], codes "Leave this ) out: no parenthesis is open.") ∷
     (any_number ∷ [], this (codes ")") ∷ [], codes "Leave this ) out: no parenthesis is open.") ∷
     (any_name ∷ this (codes "(") ∷ [], this (codes ")") ∷ [], codes "Leave the empty parentheses out: a process without arguments is its name alone.") ∷
     (this (codes "<") ∷ any_word ∷ this (codes ",") ∷ simple ∷ [], this (codes ")") ∷ [], codes "Write > before it: a tuple is open.") ∷
     (this (codes "<") ∷ any_word ∷ this (codes ",") ∷ one_of (codes "~" ∷ codes "$" ∷ []) ∷ any_name ∷ [], this (codes ")") ∷ [], codes "Write > before it: a tuple is open.") ∷
     (one_of (codes "out" ∷ codes "in" ∷ []) ∷ [], one_of (codes "~" ∷ codes "$" ∷ codes "<" ∷ []) ∷ [], codes "Put the message into parentheses, as out(m) and in(x).") ∷
     (one_of (codes "out" ∷ codes "in" ∷ []) ∷ [], simple ∷ [], codes "Put the message into parentheses, as out(m) and in(x).") ∷
+    []
+
+-- of what stands behind a parenthesis that is closed: the words before it are those before the sign that opens it
+unfoldable pub closed_rows : List WordRow
+closed_rows =
+    (one_of (codes ";" ∷ codes ":" ∷ codes "=" ∷ codes "|" ∷ codes "||" ∷ codes "then" ∷ codes "else" ∷ codes "!" ∷ codes "(" ∷ []) ∷ [], this (codes ";") ∷ [], codes "Put what follows into the parentheses: behind them no process stands.") ∷
+    (this (codes "as") ∷ any_name ∷ this (codes "in") ∷ [], this (codes ";") ∷ [], codes "Put what follows into the parentheses: behind them no process stands.") ∷
+    (one_of (codes ";" ∷ codes ":" ∷ codes "|" ∷ codes "||" ∷ codes "then" ∷ codes "else" ∷ codes "!" ∷ []) ∷ any_name ∷ [], this (codes ";") ∷ [], codes "Put what follows into the definition: behind the use of a process no other stands.") ∷
+    (this (codes "let") ∷ any_name ∷ this (codes "=") ∷ any_name ∷ [], this (codes ";") ∷ [], codes "Put what follows into the definition: behind the use of a process no other stands.") ∷
+    (this (codes "as") ∷ any_name ∷ this (codes "in") ∷ any_name ∷ [], this (codes ";") ∷ [], codes "Put what follows into the definition: behind the use of a process no other stands.") ∷
+    (one_of (codes ";" ∷ codes ":" ∷ codes "=" ∷ codes "|" ∷ codes "||" ∷ codes "then" ∷ codes "else" ∷ codes "!" ∷ []) ∷ this (codes "(") ∷ any_name ∷ [], this (codes ";") ∷ [], codes "Put what follows into the definition: behind the use of a process no other stands.") ∷
+    (this (codes "as") ∷ any_name ∷ this (codes "in") ∷ this (codes "(") ∷ any_name ∷ [], this (codes ";") ∷ [], codes "Put what follows into the definition: behind the use of a process no other stands.") ∷
+    (this (codes "event") ∷ capital_name ∷ this (codes "(") ∷ small_name ∷ [], this (codes ";") ∷ [], codes "Write a ) before it: a parenthesis is open.") ∷
+    (one_of (codes "out" ∷ codes "in" ∷ []) ∷ this (codes "(") ∷ small_name ∷ [], this (codes ";") ∷ [], codes "Write a ) before it: a parenthesis is open.") ∷
+    (this (codes "event") ∷ capital_name ∷ [], this (codes ")") ∷ [], codes "Leave this ) out: no parenthesis is open.") ∷
+    (one_of (codes "out" ∷ codes "in" ∷ []) ∷ [], this (codes ")") ∷ [], codes "Leave this ) out: no parenthesis is open.") ∷
+    (this (codes "event") ∷ capital_name ∷ [], one_of (codes "end" ∷ codes "lemma" ∷ codes "restriction" ∷ codes "let" ∷ []) ∷ [], codes "Write a ) before it: a parenthesis is open.") ∷
+    (one_of (codes "out" ∷ codes "in" ∷ []) ∷ [], one_of (codes "end" ∷ codes "lemma" ∷ codes "restriction" ∷ codes "let" ∷ []) ∷ [], codes "Write a ) before it: a parenthesis is open.") ∷
+    (this (codes "event") ∷ capital_name ∷ [], one_of action_words ∷ [], codes "Write ; before it.") ∷
+    (one_of (codes "out" ∷ codes "in" ∷ []) ∷ [], one_of action_words ∷ [], codes "Write ; before it.") ∷
     []
 
 -- of ends, and of what stands between actions
@@ -85,14 +97,8 @@ end_rows =
     ([], this (codes "in") ∷ one_of (codes "out" ∷ codes "new" ∷ codes "event" ∷ codes "insert" ∷ codes "delete" ∷ codes "lock" ∷ codes "unlock" ∷ codes "if" ∷ codes "lookup" ∷ codes "let" ∷ codes "in" ∷ codes "!" ∷ codes "[" ∷ codes "process" ∷ codes "restriction" ∷ codes "lemma" ∷ codes "builtins" ∷ codes "functions" ∷ codes "end" ∷ []) ∷ [], codes "Leave in out: a let ends with its process.") ∷
     ([], this (codes "in") ∷ any_name ∷ [], codes "Leave in out: a let ends with its process.") ∷
     ([], this (codes "in") ∷ any_number ∷ [], codes "Leave in out: a let ends with its process.") ∷
-    (this (codes "event") ∷ capital_name ∷ this (codes "(") ∷ this (codes ")") ∷ [], one_of (codes "end" ∷ codes "lemma" ∷ codes "restriction" ∷ codes "let" ∷ []) ∷ [], codes "Write a ) before it: a parenthesis is open.") ∷
-    (this (codes "event") ∷ capital_name ∷ this (codes "(") ∷ any_word ∷ this (codes ")") ∷ [], one_of (codes "end" ∷ codes "lemma" ∷ codes "restriction" ∷ codes "let" ∷ []) ∷ [], codes "Write a ) before it: a parenthesis is open.") ∷
-    (one_of (codes "out" ∷ codes "in" ∷ []) ∷ this (codes "(") ∷ any_word ∷ this (codes ")") ∷ [], one_of (codes "end" ∷ codes "lemma" ∷ codes "restriction" ∷ codes "let" ∷ []) ∷ [], codes "Write a ) before it: a parenthesis is open.") ∷
     (any_number ∷ [], one_of (codes "end" ∷ codes "lemma" ∷ codes "restriction" ∷ codes "let" ∷ []) ∷ [], codes "Write a ) before it: a parenthesis is open.") ∷
     (this (codes "new") ∷ any_name ∷ [], one_of action_words ∷ [], codes "Write ; before it.") ∷
     (this (codes "new") ∷ this (codes "~") ∷ any_name ∷ [], one_of action_words ∷ [], codes "Write ; before it.") ∷
-    (one_of (codes "out" ∷ codes "in" ∷ []) ∷ this (codes "(") ∷ any_word ∷ this (codes ")") ∷ [], one_of action_words ∷ [], codes "Write ; before it.") ∷
-    (this (codes "event") ∷ capital_name ∷ this (codes "(") ∷ this (codes ")") ∷ [], one_of action_words ∷ [], codes "Write ; before it.") ∷
-    (this (codes "event") ∷ capital_name ∷ this (codes "(") ∷ any_word ∷ this (codes ")") ∷ [], one_of action_words ∷ [], codes "Write ; before it.") ∷
     ([], this (codes "XOR") ∷ [], codes "Write a symbol of a builtin: there is no exclusive or.") ∷
     []

@@ -2,17 +2,17 @@
 ghost use Rattle.std.specs.Prelude.{◌≡◌, drop, map};
 ghost use Rattle.std.specs.Option.{option_copied, option_or};
 ghost use Rattle.std.specs.List.{list_any};
-ghost use Rattle.sap_grammar.specs.Words.{is_lower, is_upper, words_of};
-ghost use Rattle.sap_cures.specs.WordCures.{first_cure, fits, formula_cure, is_end, is_first, is_such, is_word, item_cure, passes, process_cure, word_cure};
+ghost use Rattle.sap_grammar.specs.Words.{is_lower, is_upper, starts, words_of};
+ghost use Rattle.sap_cures.specs.WordCures.{closed_cure, first_cure, fits, formula_cure, is_end, is_first, is_such, is_word, item_cure, opened, passes, process_cure, word_cure};
 ghost use Rattle.sap_cures.specs.Tests.{simple};
 ghost use Rattle.sap_cures.specs.ItemRows.{declaration_rows, head_rows, other_item_rows};
 ghost use Rattle.sap_cures.specs.FormulaRows.{fact_rows, sign_rows};
-ghost use Rattle.sap_cures.specs.ProcessRows.{condition_rows, end_rows, parenthesis_rows, term_rows};
+ghost use Rattle.sap_cures.specs.ProcessRows.{closed_rows, condition_rows, end_rows, parenthesis_rows, term_rows};
 ghost use Rattle.sap_cures.specs.code.Views.{row_of, test_of, text_of};
 
 use crate::formula_rows::{FACT_ROWS, SIGN_ROWS};
 use crate::item_rows::{DECLARATION_ROWS, HEAD_ROWS, OTHER_ITEM_ROWS};
-use crate::process_rows::{CONDITION_ROWS, END_ROWS, PARENTHESIS_ROWS, TERM_ROWS};
+use crate::process_rows::{CLOSED_ROWS, CONDITION_ROWS, END_ROWS, PARENTHESIS_ROWS, TERM_ROWS};
 use crate::test::{Test, WordRow};
 use sap_grammar::{beyond, is_lower, is_upper, name_at, names, number_at, quoted_at, starts};
 use sap_text::Token;
@@ -117,15 +117,15 @@ fn pass_at(bytes: &[u8], tokens: &[Token], at: usize, tests: &[Test]) -> bool
     passes(bytes, behind(bytes, tokens, at), tests)
 }
 
-// Whether the row fits at this token.
-fn fits(bytes: &[u8], tokens: &[Token], at: usize, row: &WordRow) -> bool
-    ensures { result ≡ fits (words_of bytes.now tokens.now) at (row_of row.now) }
+// Whether the row fits before token number k and at token number `at`.
+fn fits(bytes: &[u8], tokens: &[Token], k: usize, at: usize, row: &WordRow) -> bool
+    ensures { result ≡ fits (words_of bytes.now tokens.now) k at (row_of row.now) }
 {
-    row.before.len() <= at
+    row.before.len() <= k
         && pass_at(
             bytes,
             tokens,
-            at.saturating_sub(row.before.len()),
+            k.saturating_sub(row.before.len()),
             row.before,
         )
         && pass_at(bytes, tokens, at, row.from)
@@ -135,14 +135,45 @@ fn fits(bytes: &[u8], tokens: &[Token], at: usize, row: &WordRow) -> bool
 fn first_cure(
     bytes: &[u8],
     tokens: &[Token],
+    k: usize,
     at: usize,
     rows: &'static [WordRow],
 ) -> Option<&'static str>
-    ensures { option_copied result ≡ first_cure (words_of bytes.now tokens.now) at (map row_of rows.now) }
+    ensures { option_copied result ≡ first_cure (words_of bytes.now tokens.now) k at (map row_of rows.now) }
 {
     for row in rows {
-        if fits(bytes, tokens, at, row) {
+        if fits(bytes, tokens, k, at, row) {
             return Some(row.cure);
+        }
+    }
+    None
+}
+
+// Whether this sign stands first from token number k on.
+fn stands_at(bytes: &[u8], tokens: &[Token], k: usize, sign: &str) -> bool
+    ensures { result ≡ starts sign.now (drop k (words_of bytes.now tokens.now)) }
+{
+    starts(bytes, behind(bytes, tokens, k), sign)
+}
+
+// The number of the token that opens the parenthesis that is closed right before token number `at`.
+fn opened(bytes: &[u8], tokens: &[Token], at: usize) -> Option<usize>
+    ensures { result ≡ opened (words_of bytes.now tokens.now) at }
+{
+    if !stands_at(bytes, tokens, at.saturating_sub(1), ")") {
+        return None;
+    }
+    let mut k = at;
+    let mut closed: usize = 0;
+    while k > 0 {
+        k -= 1;
+        if stands_at(bytes, tokens, k, ")") {
+            closed += 1;
+        } else if stands_at(bytes, tokens, k, "(") {
+            if closed <= 1 {
+                return Some(k);
+            }
+            closed -= 1;
         }
     }
     None
@@ -204,6 +235,13 @@ fn all_parenthesis_rows() -> &'static [WordRow]
     PARENTHESIS_ROWS
 }
 
+#[tactic(auto, unfolding(crate::specs::ProcessRows::closed_rows))]
+fn all_closed_rows() -> &'static [WordRow]
+    ensures { map row_of result.now ≡ closed_rows }
+{
+    CLOSED_ROWS
+}
+
 #[tactic(auto, unfolding(crate::specs::ProcessRows::end_rows))]
 fn all_end_rows() -> &'static [WordRow]
     ensures { map row_of result.now ≡ end_rows }
@@ -225,10 +263,10 @@ fn item_cure(bytes: &[u8], tokens: &[Token], at: usize) -> Option<&'static str>
     ensures { option_copied result ≡ item_cure (words_of bytes.now tokens.now) at }
 {
     either(
-        first_cure(bytes, tokens, at, all_head_rows()),
+        first_cure(bytes, tokens, at, at, all_head_rows()),
         either(
-            first_cure(bytes, tokens, at, all_declaration_rows()),
-            first_cure(bytes, tokens, at, all_other_item_rows()),
+            first_cure(bytes, tokens, at, at, all_declaration_rows()),
+            first_cure(bytes, tokens, at, at, all_other_item_rows()),
         ),
     )
 }
@@ -237,21 +275,34 @@ fn formula_cure(bytes: &[u8], tokens: &[Token], at: usize) -> Option<&'static st
     ensures { option_copied result ≡ formula_cure (words_of bytes.now tokens.now) at }
 {
     either(
-        first_cure(bytes, tokens, at, all_sign_rows()),
-        first_cure(bytes, tokens, at, all_fact_rows()),
+        first_cure(bytes, tokens, at, at, all_sign_rows()),
+        first_cure(bytes, tokens, at, at, all_fact_rows()),
     )
+}
+
+// What the first row says that fits before a parenthesis that is closed right before the token, and at the token.
+fn closed_cure(bytes: &[u8], tokens: &[Token], at: usize) -> Option<&'static str>
+    ensures { option_copied result ≡ closed_cure (words_of bytes.now tokens.now) at (opened (words_of bytes.now tokens.now) at) }
+{
+    match opened(bytes, tokens, at) {
+        Some(k) => first_cure(bytes, tokens, k, at, all_closed_rows()),
+        None => None,
+    }
 }
 
 fn process_cure(bytes: &[u8], tokens: &[Token], at: usize) -> Option<&'static str>
     ensures { option_copied result ≡ process_cure (words_of bytes.now tokens.now) at }
 {
     either(
-        first_cure(bytes, tokens, at, all_condition_rows()),
+        first_cure(bytes, tokens, at, at, all_condition_rows()),
         either(
-            first_cure(bytes, tokens, at, all_term_rows()),
+            first_cure(bytes, tokens, at, at, all_term_rows()),
             either(
-                first_cure(bytes, tokens, at, all_parenthesis_rows()),
-                first_cure(bytes, tokens, at, all_end_rows()),
+                first_cure(bytes, tokens, at, at, all_parenthesis_rows()),
+                either(
+                    first_cure(bytes, tokens, at, at, all_end_rows()),
+                    closed_cure(bytes, tokens, at),
+                ),
             ),
         ),
     )

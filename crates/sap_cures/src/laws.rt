@@ -5,7 +5,7 @@ ghost use Rattle.std.specs.List.{list_all};
 ghost use Rattle.sap_cures.specs.Examples.{is_byte_told, is_word_told};
 ghost use Rattle.sap_cures.specs.ItemExamples.{builtins, functions, heads, items_left_out, items_with_names, lets, private_functions, reserved_words};
 ghost use Rattle.sap_cures.specs.FormulaExamples.{arrows, inequalities, locations, orders, quantifiers, small_facts};
-ghost use Rattle.sap_cures.specs.ProcessExamples.{closed_processes, closing_marks, conditions, ends, events, joined_actions, joined_conditions, lookups, open_parentheses, terms};
+ghost use Rattle.sap_cures.specs.ProcessExamples.{closed_parentheses, closed_processes, closing_marks, conditions, ends, events, joined_actions, joined_conditions, lookups, open_parentheses, terms};
 ghost use Rattle.sap_cures.specs.ByteExamples.{braces_and_choices, operators, other_signs, signs_of_formulas};
 
 /// A law: what is told at words of items, by examples.
@@ -39,6 +39,7 @@ pub fn process_cures_by_hand()
     ensures of_events { list_all is_word_told events ≡ true }
     ensures of_open_parentheses { list_all is_word_told open_parentheses ≡ true }
     ensures of_closed_processes { list_all is_word_told closed_processes ≡ true }
+    ensures of_closed_parentheses { list_all is_word_told closed_parentheses ≡ true }
     ensures of_closing_marks { list_all is_word_told closing_marks ≡ true }
     ensures of_ends { list_all is_word_told ends ≡ true }
     ensures of_joined_actions { list_all is_word_told joined_actions ≡ true }

@@ -12,6 +12,11 @@ pub(crate) const CONDITION_ROWS: &[WordRow] = &[
         cure: "Write the name behind as without a sign.",
     },
     WordRow {
+        before: &[Is("as")],
+        from: &[Is("in")],
+        cure: "Write the name to bind between as and in.",
+    },
+    WordRow {
         before: &[Is("as"), Name],
         from: &[OneOf(&[";", "then"])],
         cure: "Write in behind the name.",
@@ -198,33 +203,14 @@ pub(crate) const TERM_ROWS: &[WordRow] = &[
 // Of parentheses.
 pub(crate) const PARENTHESIS_ROWS: &[WordRow] = &[
     WordRow {
+        before: &[Is("as"), Name, Is("in"), Is("("), Name],
+        from: &[Is(";")],
+        cure: "Put what follows into the definition: behind the use of a process no other stands.",
+    },
+    WordRow {
         before: &[],
         from: &[Is(","), OneOf(ACTIONS)],
         cure: "Write ; for the comma.",
-    },
-    WordRow {
-        before: &[Is("event"), Capital, Is("("), Small, Is("("), Any, Is(")")],
-        from: &[Is(";")],
-        cure: "Write a ) before it: a parenthesis is open.",
-    },
-    WordRow {
-        before: &[OneOf(&["out", "in"]), Is("("), Small, Is("("), Any, Is(")")],
-        from: &[Is(";")],
-        cure: "Write a ) before it: a parenthesis is open.",
-    },
-    WordRow {
-        before: &[
-            OneOf(&["out", "in"]),
-            Is("("),
-            Small,
-            Is("("),
-            Any,
-            Is(","),
-            Any,
-            Is(")"),
-        ],
-        from: &[Is(";")],
-        cure: "Write a ) before it: a parenthesis is open.",
     },
     WordRow {
         before: &[OneOf(&["out", "in"]), Is("("), Name],
@@ -237,42 +223,25 @@ pub(crate) const PARENTHESIS_ROWS: &[WordRow] = &[
         cure: "Write a ) before it: a parenthesis is open.",
     },
     WordRow {
-        before: &[Is("("), Is(")"), Is(")")],
-        from: &[Is(";")],
-        cure: "Put what follows into the parentheses: behind them no process stands.",
-    },
-    WordRow {
-        before: &[OneOf(&["out", "in"]), Is("("), Any, Is(")"), Is(")")],
-        from: &[Is(";")],
-        cure: "Put what follows into the parentheses: behind them no process stands.",
-    },
-    WordRow {
-        before: &[Is("event"), Capital, Is("("), Any, Is(")"), Is(")")],
-        from: &[Is(";")],
-        cure: "Put what follows into the parentheses: behind them no process stands.",
-    },
-    WordRow {
-        before: &[Number, Is(")")],
-        from: &[Is(";")],
-        cure: "Put what follows into the parentheses: behind them no process stands.",
-    },
-    WordRow {
-        before: &[OneOf(&["|", "||"]), Name, Is(")")],
-        from: &[Is(";")],
-        cure: "Put what follows into the parentheses: behind them no process stands.",
-    },
-    WordRow {
         before: &[OneOf(&[";", ":", "|", "||", "then", "else", "!"]), Name],
         from: &[Is(";")],
         cure: "Put what follows into the definition: behind the use of a process no other stands.",
     },
     WordRow {
+        before: &[Is("let"), Name, Is("="), Name],
+        from: &[Is(";")],
+        cure: "Put what follows into the definition: behind the use of a process no other stands.",
+    },
+    WordRow {
+        before: &[Is("as"), Name, Is("in"), Name],
+        from: &[Is(";")],
+        cure: "Put what follows into the definition: behind the use of a process no other stands.",
+    },
+    WordRow {
         before: &[
-            OneOf(&[";", ":", "|", "||", "then", "else", "!"]),
-            Name,
+            OneOf(&[";", ":", "=", "|", "||", "then", "else", "!"]),
             Is("("),
-            Any,
-            Is(")"),
+            Name,
         ],
         from: &[Is(";")],
         cure: "Put what follows into the definition: behind the use of a process no other stands.",
@@ -281,35 +250,6 @@ pub(crate) const PARENTHESIS_ROWS: &[WordRow] = &[
         before: &[Number],
         from: &[Is(";")],
         cure: "Leave out the 0, or what follows it: 0 ends a process.",
-    },
-    WordRow {
-        before: &[Is("event"), Capital, Is("("), Is(")")],
-        from: &[Is(")")],
-        cure: "Leave this ) out: no parenthesis is open.",
-    },
-    WordRow {
-        before: &[Is("event"), Capital, Is("("), Any, Is(")")],
-        from: &[Is(")")],
-        cure: "Leave this ) out: no parenthesis is open.",
-    },
-    WordRow {
-        before: &[
-            Is("event"),
-            Capital,
-            Is("("),
-            Small,
-            Is("("),
-            Any,
-            Is(")"),
-            Is(")"),
-        ],
-        from: &[Is(")")],
-        cure: "Leave this ) out: no parenthesis is open.",
-    },
-    WordRow {
-        before: &[OneOf(&["out", "in"]), Is("("), Any, Is(")")],
-        from: &[Is(")")],
-        cure: "Leave this ) out: no parenthesis is open.",
     },
     WordRow {
         before: &[Number],
@@ -340,6 +280,89 @@ pub(crate) const PARENTHESIS_ROWS: &[WordRow] = &[
         before: &[OneOf(&["out", "in"])],
         from: &[Simple],
         cure: "Put the message into parentheses, as out(m) and in(x).",
+    },
+];
+
+// Of what stands behind a parenthesis that is closed: the words before it are those before the sign that opens it.
+pub(crate) const CLOSED_ROWS: &[WordRow] = &[
+    WordRow {
+        before: &[OneOf(&[";", ":", "=", "|", "||", "then", "else", "!", "("])],
+        from: &[Is(";")],
+        cure: "Put what follows into the parentheses: behind them no process stands.",
+    },
+    WordRow {
+        before: &[Is("as"), Name, Is("in")],
+        from: &[Is(";")],
+        cure: "Put what follows into the parentheses: behind them no process stands.",
+    },
+    WordRow {
+        before: &[OneOf(&[";", ":", "|", "||", "then", "else", "!"]), Name],
+        from: &[Is(";")],
+        cure: "Put what follows into the definition: behind the use of a process no other stands.",
+    },
+    WordRow {
+        before: &[Is("let"), Name, Is("="), Name],
+        from: &[Is(";")],
+        cure: "Put what follows into the definition: behind the use of a process no other stands.",
+    },
+    WordRow {
+        before: &[Is("as"), Name, Is("in"), Name],
+        from: &[Is(";")],
+        cure: "Put what follows into the definition: behind the use of a process no other stands.",
+    },
+    WordRow {
+        before: &[
+            OneOf(&[";", ":", "=", "|", "||", "then", "else", "!"]),
+            Is("("),
+            Name,
+        ],
+        from: &[Is(";")],
+        cure: "Put what follows into the definition: behind the use of a process no other stands.",
+    },
+    WordRow {
+        before: &[Is("as"), Name, Is("in"), Is("("), Name],
+        from: &[Is(";")],
+        cure: "Put what follows into the definition: behind the use of a process no other stands.",
+    },
+    WordRow {
+        before: &[Is("event"), Capital, Is("("), Small],
+        from: &[Is(";")],
+        cure: "Write a ) before it: a parenthesis is open.",
+    },
+    WordRow {
+        before: &[OneOf(&["out", "in"]), Is("("), Small],
+        from: &[Is(";")],
+        cure: "Write a ) before it: a parenthesis is open.",
+    },
+    WordRow {
+        before: &[Is("event"), Capital],
+        from: &[Is(")")],
+        cure: "Leave this ) out: no parenthesis is open.",
+    },
+    WordRow {
+        before: &[OneOf(&["out", "in"])],
+        from: &[Is(")")],
+        cure: "Leave this ) out: no parenthesis is open.",
+    },
+    WordRow {
+        before: &[Is("event"), Capital],
+        from: &[OneOf(&["end", "lemma", "restriction", "let"])],
+        cure: "Write a ) before it: a parenthesis is open.",
+    },
+    WordRow {
+        before: &[OneOf(&["out", "in"])],
+        from: &[OneOf(&["end", "lemma", "restriction", "let"])],
+        cure: "Write a ) before it: a parenthesis is open.",
+    },
+    WordRow {
+        before: &[Is("event"), Capital],
+        from: &[OneOf(ACTIONS)],
+        cure: "Write ; before it.",
+    },
+    WordRow {
+        before: &[OneOf(&["out", "in"])],
+        from: &[OneOf(ACTIONS)],
+        cure: "Write ; before it.",
     },
 ];
 
@@ -406,21 +429,6 @@ pub(crate) const END_ROWS: &[WordRow] = &[
         cure: "Leave in out: a let ends with its process.",
     },
     WordRow {
-        before: &[Is("event"), Capital, Is("("), Is(")")],
-        from: &[OneOf(&["end", "lemma", "restriction", "let"])],
-        cure: "Write a ) before it: a parenthesis is open.",
-    },
-    WordRow {
-        before: &[Is("event"), Capital, Is("("), Any, Is(")")],
-        from: &[OneOf(&["end", "lemma", "restriction", "let"])],
-        cure: "Write a ) before it: a parenthesis is open.",
-    },
-    WordRow {
-        before: &[OneOf(&["out", "in"]), Is("("), Any, Is(")")],
-        from: &[OneOf(&["end", "lemma", "restriction", "let"])],
-        cure: "Write a ) before it: a parenthesis is open.",
-    },
-    WordRow {
         before: &[Number],
         from: &[OneOf(&["end", "lemma", "restriction", "let"])],
         cure: "Write a ) before it: a parenthesis is open.",
@@ -432,21 +440,6 @@ pub(crate) const END_ROWS: &[WordRow] = &[
     },
     WordRow {
         before: &[Is("new"), Is("~"), Name],
-        from: &[OneOf(ACTIONS)],
-        cure: "Write ; before it.",
-    },
-    WordRow {
-        before: &[OneOf(&["out", "in"]), Is("("), Any, Is(")")],
-        from: &[OneOf(ACTIONS)],
-        cure: "Write ; before it.",
-    },
-    WordRow {
-        before: &[Is("event"), Capital, Is("("), Is(")")],
-        from: &[OneOf(ACTIONS)],
-        cure: "Write ; before it.",
-    },
-    WordRow {
-        before: &[Is("event"), Capital, Is("("), Any, Is(")")],
         from: &[OneOf(ACTIONS)],
         cure: "Write ; before it.",
     },

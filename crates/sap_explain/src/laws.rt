@@ -7,6 +7,7 @@ ghost use Rattle.sap_text.specs.declared.fault.Lex.TheVariants.{BadByte};
 ghost use Rattle.sap_formula.specs.declared.fault.FormulaFault.{FormulaFault};
 ghost use Rattle.sap_locks.specs.declared.fault.LockFault.TheVariants.{LockOverParallel, Mem as Wanting, UnlockWithoutLock};
 ghost use Rattle.sap_process.specs.declared.flaw.Flaw.{Flaw};
+ghost use Rattle.sap_process.specs.declared.flaw.Flaw.TheVariants.{FactClash, Rebound, SortClash, Unbound};
 ghost use Rattle.sap_read_places.specs.declared.told.Told.{Told};
 ghost use Rattle.sap_restrict.specs.Restrictions.{is_generated};
 ghost use Rattle.sap_terms.specs.Signature.{find_symbol, pairs_alone};
@@ -18,7 +19,7 @@ ghost use Rattle.sap_explain.specs.ExpectedTold.{IsOpenText};
 ghost use Rattle.sap_explain.specs.ExplainedExamples.{first_byte, first_use, first_word, four_uses, four_words, nine_words, one_mark, open_there, second_use, used_tokens, used_word, uses};
 
 use sap_expect::{one_expected, table_is_the_grammar};
-use sap_read_places::{path_places, read_places};
+use sap_read_places::{other_read_places, path_places, read_places};
 use sap_stretches::one_place_text;
 use sap_text::one_answer;
 use sap_where::{one_other_stretch, one_stretch};
@@ -51,13 +52,18 @@ pub fn one_other_place()
     ensures { (z : List ℕ) (e : ReadFault) (s t : Stretch) → IsOtherPlaceOf z e s → IsOtherPlaceOf z e t → s ≡ t }
 {
     one_other_stretch();
+    other_read_places();
 }
 
 /// A law: which causes have another place in each file that is refused for them.
 pub fn causes_with_other_places()
-    ensures { (line : ℕ) (x : List ℕ) → HasOtherPlace (TwoProcesses line) × HasOtherPlace (Parameters x)
+    ensures words { (line : ℕ) (x : List ℕ) → HasOtherPlace (TwoProcesses line) × HasOtherPlace (Parameters x)
         × HasOtherPlace (Arguments x) × (is_generated x ≡ false → HasOtherPlace (DuplicateName x))
         × (find_symbol pairs_alone.symbols x ≡ None → HasOtherPlace (FunctionClash x)) }
+    ensures reading { (path : List ℕ) → HasOtherPlace (Ill Rebound path) × HasOtherPlace (Ill SortClash path)
+        × HasOtherPlace (Ill FactClash path) × HasOtherPlace (Lock (LockOverParallel path)) }
+    ensures others { (path : List ℕ) → (HasOtherPlace (Ill Unbound path) → ⊥) × (HasOtherPlace NoProcess → ⊥)
+        × (HasOtherPlace (Lock (UnlockWithoutLock path)) → ⊥) }
 {}
 
 /// A law: of a cause one text is told.

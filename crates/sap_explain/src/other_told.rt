@@ -6,15 +6,15 @@ ghost use Rattle.sap_stretches.specs.declared.stretch.Stretch.{Stretch as Stretc
 ghost use Rattle.sap_explain.specs.OtherTold.{HasOtherPlace, IsOtherPlaceOf, IsOtherTold};
 
 use sap_read::ReadFault;
-use sap_read_places::Reached;
+use sap_read_places::{Reached, other_told};
 use sap_stretches::{Stretch, push_place};
 use sap_terms::Mem;
 use sap_text::{Text, Token};
 use sap_where::other_stretch;
 use std::alloc::Global;
 
-/// Where in the bytes of a file the other place of the cause stands for which they are refused, where it has two: what the words of the
-/// file place where they do (`other_stretch`). `None`, where there is none. What was read of the file is lent, as to `place_of`. Want of
+/// Where in the bytes of a file the other place of the cause stands for which they are refused, where it has two: where what is read of it
+/// has it (`other_told`), and else what the words of the file place where they do (`other_stretch`). `None`, where there is none. What was read of the file is lent, as to `place_of`. Want of
 /// memory is the only error.
 pub fn other_place_of(
     alloc: Global,
@@ -30,7 +30,10 @@ pub fn other_place_of(
     ensures none { IfOk result (λ o. o ≡ None → (s : StretchOf) → IsOtherPlaceOf bytes.now fault.now s → ⊥) }
     ensures told { HasOtherPlace fault.now → IfOk result (λ o. o ≡ None → ⊥) }
 {
-    other_stretch(alloc, bytes, tokens, fault)
+    match other_told(alloc, bytes, tokens, reached, fault)? {
+        Some(told) => Ok(Some(told.word)),
+        None => other_stretch(alloc, bytes, tokens, fault),
+    }
 }
 
 // Puts last what is told of this place, which is the other one.

@@ -151,7 +151,7 @@ nowhere [] e = absurd (cc (e))
 nowhere (k ∷ path) e = absurd (cc (e))
 
 -- both are nothing, or the first is the second with sorts
-data AreSorted : Option Proc → Option Proc → Type 0 where
+pub data AreSorted : Option Proc → Option Proc → Type 0 where
   neither : AreSorted None None
   both : (scope : List Var) (p : Proc) → AreSorted (Some (with_sorts scope p)) (Some p)
 
@@ -177,7 +177,7 @@ sorted_child scope p (suc zero) = sorted_first scope p
 sorted_child scope p (suc (suc zero)) = sorted_second scope p
 sorted_child scope p (suc (suc (suc k))) = neither
 
-unsorted : (o q : Option Proc) (path : List ℕ) (y : Proc) → AreSorted o q → process_below o path ≡ Some y → (x : Proc) × (process_below q path ≡ Some x)
+pub unsorted : (o q : Option Proc) (path : List ℕ) (y : Proc) → AreSorted o q → process_below o path ≡ Some y → (x : Proc) × (process_below q path ≡ Some x)
 unsorted _ _ path y neither e = nowhere path e
 unsorted _ _ [] y (both scope p) e = (p, refl)
 unsorted _ _ (k ∷ path) y (both scope p) e = unsorted (child (with_sorts scope p) k) (child p k) path y (sorted_child scope p k) e
@@ -195,10 +195,10 @@ contained xs k x e = (k, slice_get_within xs k x e, index_is xs k x e)
 some_path : {p q : List ℕ} → ◌≡◌ {A = Option (List ℕ)} (Some p) (Some q) → p ≡ q
 some_path e = cc (e)
 
-early_has_none : (is : List Standing) (e : ReadFault) → cause_of is ≡ Some e → path_of e ≡ None
+pub early_has_none : (is : List Standing) (e : ReadFault) → cause_of is ≡ Some e → path_of e ≡ None
 early_has_none = of_cause (λ (e : ReadFault). path_of e ≡ None) refl (λ n. refl) (λ x. refl) (λ x. refl) (λ x. refl)
 
-use_has_none : (f : MacroFault) → path_of (fault_of_uses f) ≡ None
+pub use_has_none : (f : MacroFault) → path_of (fault_of_uses f) ≡ None
 use_has_none uses.Mem = refl
 use_has_none (uses.Parameters x) = refl
 use_has_none (uses.Arguments x) = refl
@@ -211,7 +211,7 @@ lock_has : (w : LockFlaw) (path : List ℕ) → path_of (lock_fault w path) ≡ 
 lock_has without path = refl
 lock_has over path = refl
 
-none_has : {A : Type 0} {o : Option (List ℕ)} {path : List ℕ} → o ≡ None → o ≡ Some path → A
+pub none_has : {A : Type 0} {o : Option (List ℕ)} {path : List ℕ} → o ≡ None → o ≡ Some path → A
 none_has n e = let clash : ◌≡◌ {A = Option (List ℕ)} None (Some _) = sym n ∙ e in absurd (cc (clash))
 
 abbrev pub ByWays : Type 0

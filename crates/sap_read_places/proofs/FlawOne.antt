@@ -145,24 +145,24 @@ one_expansion g h names bs p q a b =
 
 module _ (tokens : SameTokens) (definitions : SameDefinitions) (mains : SameMain) (cuts : OneCut) (items : OneItems) (stems : OneStems) (heads : OneHead) (at : OneAtPath) (node : OneNode)
     (filling : OneFilling) (order : SitesInOrder) (z : List ℕ) (w : Flaw) (path : List ℕ) (s t : Told) (a : IsFlawPlace z w path s) (b : IsFlawPlace z w path t) where
-  tokens_same : a.tokens ≡ b.tokens
+  pub tokens_same : a.tokens ≡ b.tokens
   tokens_same = tokens z a.tokens b.tokens a.definitions b.definitions a.main b.main a.placed b.placed
 
-  definitions_same : a.definitions ≡ b.definitions
+  pub definitions_same : a.definitions ≡ b.definitions
   definitions_same = definitions z a.tokens b.tokens a.definitions b.definitions a.main b.main a.placed b.placed
 
-  main_same : a.main ≡ b.main
+  pub main_same : a.main ≡ b.main
   main_same = mains z a.tokens b.tokens a.definitions b.definitions a.main b.main a.placed b.placed
 
   cut_same : a.placed.cut ≡ b.placed.cut
   cut_same = cuts z a.tokens b.tokens a.placed.name b.placed.name a.placed.cut b.placed.cut a.placed.parted b.placed.parted
 
-  standing_same : a.placed.standing ≡ b.placed.standing
+  pub standing_same : a.placed.standing ≡ b.placed.standing
   standing_same =
       items b.placed.cut a.placed.standing b.placed.standing
       (subst (λ (c : List (List Placed)). AreItems (signature_of a.placed.standing) c a.placed.standing) cut_same a.placed.items) b.placed.items
 
-  process_same : a.process ≡ b.process
+  pub process_same : a.process ≡ b.process
   process_same =
       one_expansion (signature_of a.placed.standing) (signature_of b.placed.standing) (identifiers_of (words_of z b.tokens)) (bodies b.placed.standing) a.process b.process
       (subst (λ (is : List Standing). IsExpanded (signature_of a.placed.standing) (identifiers_of (words_of z b.tokens)) (bodies is) a.process) standing_same
@@ -171,10 +171,10 @@ module _ (tokens : SameTokens) (definitions : SameDefinitions) (mains : SameMain
   stands_too : slice_get (sites b.process) a.number ≡ Some a.site
   stands_too = subst (λ (p : Proc). slice_get (sites p) a.number ≡ Some a.site) process_same a.stands
 
-  number_is : a.number ≡ b.number
+  pub number_is : a.number ≡ b.number
   number_is = one_number order b.process a.site b.site path a.number b.number stands_too b.stands a.path_is b.path_is
 
-  site_same : a.site ≡ b.site
+  pub site_same : a.site ≡ b.site
   site_same = some_same (sym stands_too ∙ ap (slice_get (sites b.process)) number_is ∙ b.stands)
 
   speaks_too : IsSpoken (signature_of b.placed.standing) [] b.process (take b.number (sites b.process)) b.site w (Some a.spoken)

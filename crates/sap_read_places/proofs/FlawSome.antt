@@ -280,7 +280,7 @@ module _ (spelled : AreSpelled) (heads : SomeHead) (nodes : SomeNode) (filling :
     plain_ds : map plain_definition ds ≡ definitions_of (bodies is)
     plain_ds = plain_definitions_at bs ∙ ap definitions_of (plain (signature_of is) cut is items)
 
-    main : (m : LocatedMain) × (main_at bs ≡ Some m) × (without_numbers m.process ≡ whole.main)
+    pub main : (m : LocatedMain) × (main_at bs ≡ Some m) × (without_numbers m.process ≡ whole.main)
     main = has_main bs whole.main (ap main_of (plain (signature_of is) cut is items) ∙ whole.is_main)
 
     order : AreInOrder [] (map plain_definition ds)
@@ -297,7 +297,7 @@ module _ (spelled : AreSpelled) (heads : SomeHead) (nodes : SomeNode) (filling :
     placed : IsPlaced z ts ds main.0
     placed = record { name = x; cut = cut; standing = is; parted = parted; items = items; nothing = nothing; definitions_are = refl; main_is = main.1 }
 
-    node_told : (path : List ℕ) (y : Proc) (n : ℕ) → process_at p path ≡ Some y → n < length (head_nodes y) → (t : Told) × IsNodeTold g z ts ds main.0 path n t
+    pub node_told : (path : List ℕ) (y : Proc) (n : ℕ) → process_at p path ≡ Some y → n < length (head_nodes y) → (t : Told) × IsNodeTold g z ts ds main.0 path n t
     node_told path y n at low =
         let there : process_at (expansion (map plain_definition ds) names (without_numbers main.0.process)).process path ≡ Some y =
         subst (λ (q : Proc). process_at q path ≡ Some y) (sym expanded) at in

@@ -1,5 +1,5 @@
 -- What is told of a flaw of the process of a file.
-use Rattle.std.proofs.Common.{◌≡◌, ℕ, List, [], Option, Some, None, Ok, Err, take, sym, ap, ◌∙◌, subst}
+use Rattle.std.proofs.Common.{◌≡◌, ◌-◌, ◌^◌, min, refl, ℕ, List, [], Option, Some, None, Ok, Err, take, sym, ap, ◌∙◌, subst}
 use Rattle.std.specs.Prelude.{IfOk, IfSome, Result, slice_get}
 use Rattle.sap_terms.specs.declared.mem.Mem.{Mem}
 use Rattle.sap_terms.specs.Signature.{Sig}
@@ -29,6 +29,10 @@ use Rattle.sap_read_places.specs.declared.told.Told.{Told}
 use Rattle.sap_read_places.specs.FlawPlaces.{IsFlawPlace, IsNodeTold, IsSpokenTold}
 use Rattle.sap_read_places.specs.Placed.{IsPlaced}
 use Rattle.sap_read_places.specs.code.FlawNodes.{IsFlawAnswer, IsFlawIn, IsFree, IsNodeIn, IsSpokenIn, Speaks, SpeaksOf, expansion_in, main_in, no_flaw, some_flaw}
+use Rattle.sap_read_places.specs.OtherFlawPlaces.{IsOtherFlawPlace, IsOtherNode}
+use Rattle.sap_read_places.specs.code.OtherFlaws.{IsOtherAnswer}
+use Rattle.sap_read_places.specs.code.OtherFlaws as other
+use Rattle.sap_read_places.proofs.OtherFlaws.{has_other, spoken_node}
 use Rattle.sap_read_places.proofs.Along.{SameDefinitions, SameMain, SameTokens, comes_too}
 use Rattle.sap_read_places.proofs.FlawOne.{OneFilling, OneNode, SitesInOrder, one_spoken}
 use Rattle.sap_read_places.proofs.FlawSome.{AreSpelled, SomeHead, WrittenStems, stem_told}
@@ -195,6 +199,43 @@ module _ {z : List ℕ} {ts : List Token} {w : WrittenFile} (only : (us : List T
           let none : IsSpokenIn z ts w.processes (take f.depth path) f.node None = subst (λ (v : Option Told). IsSpokenIn z ts w.processes (take f.depth path) f.node v) e b.told in
           none_told (signature_of a.placed.standing) a.spoken.node (take a.spoken.depth path) t
           (subst (λ (v : Spoken). IsSpokenIn z ts w.processes (take v.depth path) v.node None) spoken none) told_too
+
+    -- what the code tells of the other place is that
+    module _ (cuts : OneCut) (items : OneItems) (node : OneNode) (filling : OneFilling) (order : SitesInOrder) (which : Flaw) (path : List ℕ) (t : Told) (b : IsOtherFlawPlace z which path t) where
+      abbrev first_place : IsFlawPlace z which path b.first
+      first_place = b.at
+
+      other_process : b.at.process ≡ p
+      other_process = process_same cuts items node filling order which path b.first first_place
+
+      other_told : IsNodeTold (signature_of b.at.placed.standing) z ts ds main b.other_path b.other_node t
+      other_told =
+          subst (λ (m : LocatedMain). IsNodeTold (signature_of b.at.placed.standing) z ts ds m b.other_path b.other_node t) (mains z b.at.tokens is.tokens b.at.definitions ds b.at.main main b.at.placed here)
+          (subst (λ (es : List LocatedDefinition). IsNodeTold (signature_of b.at.placed.standing) z ts es b.at.main b.other_path b.other_node t)
+          (located_same z b.at.tokens is.tokens b.at.definitions ds b.at.main main b.at.placed here)
+          (subst (λ (us : List Token). IsNodeTold (signature_of b.at.placed.standing) z us b.at.definitions b.at.main b.other_path b.other_node t)
+          (tokens_same cuts items node filling order which path b.first first_place ∙ sym same) b.told))
+
+      number_told : b.at.spoken.node ≡ Some (min b.node (2 ^ 64 - 1))
+      number_told =
+          spoken_node node (signature_of b.at.placed.standing) b.at.process (take b.at.number (sites b.at.process)) b.at.site which b.at.spoken b.node
+          (has_other which b.at.process b.at.site b.node b.other_path b.other_node b.other) b.at.speaks b.speaks
+
+      pub other_answer : {o : Option Told} → IsOtherAnswer z ts w which path o → o ≡ Some t
+      other_answer (other.no_flaw n) =
+          absurd (n (free cuts items node filling order which path b.first first_place) b.at.spoken (speaks cuts items node filling order which path b.first first_place))
+      other_answer (other.some_flaw {f = f} {o = o} s h) =
+          let there : IsSpoken w.declared.signature [] p (take s.number (sites p)) s.site which (Some b.at.spoken) =
+          spoken_too order w.declared.signature p which path s.number s.site s.stands s.path_is b.at.spoken (speaks cuts items node filling order which path b.first first_place) in
+          let spoken : f ≡ b.at.spoken = one_spoken node w.declared.signature (take s.number (sites p)) s.site filling p which f b.at.spoken s.speaks there in
+          h (min b.node (2 ^ 64 - 1)) (ap (λ (x : Spoken). x.node) spoken ∙ number_told) b.at.number b.node b.at.site b.other_path b.other_node (signature_of b.at.placed.standing) t
+          (subst (λ (q : Proc). slice_get (sites q) b.at.number ≡ Some b.at.site) other_process b.at.stands) b.at.path_is refl
+          (subst (λ (q : Proc). IsOtherNode which q b.at.site b.node b.other_path b.other_node) other_process b.other) other_told
+
+    pub only_other : OneCut → OneItems → OneNode → OneFilling → SitesInOrder → (which : Flaw) (path : List ℕ) (r : Result (Option Told) Mem) → IfOk r (λ o. IsOtherAnswer z ts w which path o)
+        → IfOk r (λ o. (t : Told) → IsOtherFlawPlace z which path t → o ≡ Some t)
+    only_other cuts items node filling order which path (Ok o) h = λ t b. other_answer cuts items node filling order which path t b h
+    only_other cuts items node filling order which path (Err m) h = tt
 
     pub no_flaw_there : OneCut → OneItems → OneNode → OneFilling → SitesInOrder → (which : Flaw) (path : List ℕ) (r : Result (Option Told) Mem) → IfOk r (λ o. IsFlawAnswer z ts w which path o)
         → IfOk r (λ o. o ≡ None → (t : Told) → IsFlawPlace z which path t → ⊥)

@@ -12,7 +12,11 @@ pub mod UndefinedTold
 pub mod UsePlaces
 pub mod UseTold
 pub mod SpokenTold
+pub mod OtherFlaws
 pub mod FlawTold
+pub mod OneOtherFlaw
+pub mod SomeOtherFlaw
+pub mod OtherReading
 pub mod FaultyParts
 pub mod PartsByHand
 pub mod PartFound
@@ -27,3 +31,4 @@ pub mod BodyFlawSome
 pub mod BodyNodeTold
 pub mod BodyFlawTold
 pub mod BodyFlawByHand
+pub mod OtherLockPlaces

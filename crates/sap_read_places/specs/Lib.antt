@@ -12,6 +12,9 @@ pub mod PartPlaces
 pub mod PartExamples
 pub mod ReadPlaces
 pub mod Reached
+pub mod OtherFlawPlaces
+pub mod OtherReadPlaces
+pub mod OtherLockPlaces
 pub mod UseExamples
 pub mod NameExamples
 pub mod code

@@ -6,3 +6,4 @@ pub mod PartWalk
 pub mod BodyNodes
 pub mod BodyFlaws
 pub mod FlawNodes
+pub mod OtherFlaws

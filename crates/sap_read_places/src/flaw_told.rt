@@ -87,8 +87,8 @@ fn written_told(
     }
 }
 
-// What is told of the node of this number at the place to which the path leads in these processes, if it leads to one that has it.
-fn node_told(
+/// What is told of the node of this number at the place to which the path leads in these processes, if it leads to one that has it.
+pub(crate) fn node_told(
     alloc: Global,
     bytes: &[u8],
     tokens: &[Token],
@@ -129,8 +129,8 @@ fn node_told(
     }
 }
 
-// The first digits of the path.
-fn front(path: &[u8], depth: u64) -> &[u8]
+/// The first digits of the path.
+pub(crate) fn front(path: &[u8], depth: u64) -> &[u8]
     ensures { result.now ≡ take depth path.now }
 {
     let n = depth as usize;
@@ -166,8 +166,8 @@ fn spoken_told(
     }
 }
 
-// Of what the flaw speaks that this process, the expansion of what is written, has at this path, if there is such a place.
-fn spoken_at(
+/// Of what the flaw speaks that this process, the expansion of what is written, has at this path, if there is such a place.
+pub(crate) fn spoken_at(
     alloc: Global,
     file: &WrittenFile,
     index: &Index,

@@ -7,6 +7,7 @@ ghost use Rattle.sap_read.specs.FileTokens.{HasTokens};
 ghost use Rattle.sap_read.specs.Files.{IsRead};
 ghost use Rattle.sap_read.specs.SaidFiles.{IsJudged, IsOfItems, IsOfUses, IsSaidFile};
 ghost use Rattle.sap_read.specs.WrittenFiles.{IsWrittenFile};
+ghost use Rattle.sap_read_places.specs.OtherReadPlaces.{HasOtherReadPlace, IsOtherReadPlace};
 ghost use Rattle.sap_read_places.specs.ReadPlaces.{IsReadPlace};
 ghost use Rattle.sap_read_places.specs.Reached.{IsReached};
 ghost use Rattle.sap_stretches.specs.Stretches.{IsInBytes};
@@ -15,6 +16,9 @@ ghost use Rattle.sap_read_places.specs.declared.told.Told.{Told as ToldOf};
 use crate::body_flaw_told::body_flaw_told;
 use crate::flaw_told::flaw_told;
 use crate::limit_told::{Limit, limit_told};
+use crate::other_flaw_told::other_flaw_told;
+use crate::other_laws::other_read_places;
+use crate::other_lock_told::held_told;
 use crate::part::part_told;
 use crate::reached::Reached;
 use crate::told::Told;
@@ -138,5 +142,39 @@ pub fn read_told(
         Reached::Expanded(written, process) => {
             told_of_judged(alloc, bytes, tokens, written, process, fault)
         }
+    }
+}
+
+/// What is told of the other place of the cause, where what is read of the file has two: of a name that is bound again, and of a variable
+/// with another sign, the word from which the node stems that binds it there, and of a fact that clashes with one before it that of the
+/// first of its name and kind that differs from it; of a lock over a parallel or a replication that of the lock. `None` for all other causes. What was read of the file is
+/// lent, and nothing of it is read again.
+pub fn other_told(
+    alloc: Global,
+    bytes: &[u8],
+    tokens: &[Token],
+    reached: Reached<'_>,
+    fault: &ReadFault,
+) -> Result<Option<Told>, Mem>
+    requires refused { IsRead bytes.now (Err fault.now) }
+    requires reached { IsReached bytes.now tokens.now fault.now reached }
+    ensures place { IfOk result (λ o. IfSome o (λ t. IsOtherReadPlace bytes.now fault.now t)) }
+    ensures inside { IfOk result (λ o. IfSome o (λ t. t.word.from ≤ length bytes.now)) }
+    ensures none { IfOk result (λ o. o ≡ None → (t : ToldOf) → IsOtherReadPlace bytes.now fault.now t → ⊥) }
+    ensures told { HasOtherReadPlace fault.now → IfOk result (λ o. o ≡ None → ⊥) }
+{
+    other_read_places();
+    match reached {
+        Reached::Bytes => Ok(None),
+        Reached::Tokens => Ok(None),
+        Reached::Items(_) => Ok(None),
+        Reached::Written(_) => Ok(None),
+        Reached::Expanded(written, process) => match fault {
+            ReadFault::Ill { which, path } => {
+                other_flaw_told(alloc, bytes, tokens, written, process, *which, path)
+            }
+            ReadFault::Lock(lock) => held_told(alloc, bytes, tokens, written, process, lock),
+            _ => Ok(None),
+        },
     }
 }

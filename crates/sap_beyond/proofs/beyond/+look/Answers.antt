@@ -29,7 +29,7 @@ look_at_both-look_at-requires-in-Past t c =
 
 pub look-returns-in-Call-clause-leads : goal.look-returns-in-Call-clause-leads
 look-returns-in-Call-clause-leads t c = λ shapes names kept uses.
-    of_use c.args.by shapes names c.args.sizes.now (written c.args.source.now) c.in-Call.name c.in-Call.field-2 c.args.wanted c.args.trail.now c.at_use.result (ap written c.in-Call.is) kept uses
+    of_use c.args.by shapes names c.args.index.now c.args.extents.now (written c.args.source.now) c.in-Call.name c.in-Call.field-2 c.args.wanted c.args.trail.now c.at_use.result (ap written c.in-Call.is) kept uses
     (c.at_use.ensures.leads shapes c.args.trail.now)
 
 pub look_at_place-returns-then-wanted-eq0-clause-leads : goal.look_at_place-returns-then-wanted-eq0-clause-leads

@@ -17,7 +17,7 @@ use Rattle.sap_explain.specs.Advice.{advice}
 use Rattle.sap_explain.specs.Cures.{IsCure, at_byte, at_word, uncured}
 use Rattle.sap_explain.specs.Explained.{AreUseTexts, AreUsesTold, IsPlaceTold, IsUseText, a_use, no_use, nowhere, somewhere}
 use Rattle.sap_explain.specs.ExpectedTold.{no_such, none_open, one_open}
-use Rattle.sap_explain.specs.OtherTold.{IsOtherPlaceOf, no_other, other_by_words}
+use Rattle.sap_explain.specs.OtherTold.{IsOtherPlaceOf, no_other, other_by_reading, other_by_words}
 use Rattle.sap_explain.specs.ExplainedExamples.{first_use, first_word, four_uses, four_words, nine_words, one_mark, second_use, shown_byte, used_word, uses}
 use Rattle.sap_explain.proofs.Telling.{OnePosition, one_uses_text}
 use Rattle.sap_explain.proofs.laws.explanations_by_hand.Goals as goal
@@ -99,9 +99,11 @@ place_told = somewhere is_told byte_text (record { texts = []; are = no_use; tex
 -- it has no other place, and no process has none
 no_other_byte : (s : Stretch) → IsOtherPlaceOf one_mark (Lex (BadByte 0)) s → ⊥
 no_other_byte s (other_by_words w) = elim w [ ]
+no_other_byte s (other_by_reading h is) = elim h [ ]
 
 no_other_process : (s : Stretch) → IsOtherPlaceOf [] NoProcess s → ⊥
 no_other_process s (other_by_words w) = elim w [ ]
+no_other_process s (other_by_reading h is) = elim h [ ]
 
 -- no row says anything of this byte, and of no process none does
 some_same : {a b : ℕ} → Some a ≡ Some b → a ≡ b

@@ -1,0 +1,2 @@
+-- What the code does, step by step: no public contract cites what stands below.
+pub mod Kinds

@@ -1,0 +1,13 @@
+pub mod SeekLemmas
+pub mod SeekOutcomes
+pub mod HeadBinders
+pub mod BinderWays
+pub mod BinderTold
+pub mod BindersByHand
+pub mod HeldLocks
+pub mod OpenLocks
+pub mod LockPlaces
+pub mod LocksOver
+pub mod FactNodes
+pub mod FactPlaces
+pub mod FactsTold
