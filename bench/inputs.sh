@@ -27,6 +27,8 @@
 #   builtins         all builtins, behind so many symbols; beside none
 #   let-embedded     a name that stands 1,333 times for an embedded rule of so many variables; beside an event of as many, which an
 #                    input binds
+#   chain            so many definitions without parameters, each the one before it under another name, of which the last stands at 1,333
+#                    places; beside the same definitions, where the first stands there
 #   parentheses      so many parentheses with a byte at their end that begins no token; beside the same without it. Both are refused
 #   unread           so many parentheses where a rule is to stand; beside as many tokens that are names. Both are refused
 #
@@ -259,6 +261,12 @@ def let_embedded(plain, n):
     write(plain, "file", process("%s(%s)" % (first, tree(1333)), "let A = " + action + " "))
 
 
+def chain(plain, n):
+    links = "".join("let N%d=N%d " % (k, k - 1) for k in range(1, n))
+    last = tree(1333).replace("A", "N0" if plain else "N%d" % (n - 1))
+    write(plain, "file", process(last, "let N0=event E() " + links))
+
+
 def parentheses(plain, n):
     write(plain, "theory", "theory Bench begin " + "(" * n + ("" if plain else "%"))
     write(plain, "run", rule_run([]))
@@ -475,6 +483,7 @@ behind_fault() {
 }
 builtins() { legal builtins '125000 250000 500000' check-rules theory run; }
 let_embedded() { legal let-embedded '500 1000 2000' compile file; }
+chain() { legal chain '14000 28000 56000' compile file; }
 parentheses() {
     refused parentheses '4000000 8000000 16000000' 'file refused: byte AT begins no token' 'file refused: line 1: not in the grammar'
 }
@@ -484,7 +493,7 @@ unread() {
 
 [ "${1:-}" = --rows ] && shift
 [ $# -gt 0 ] || set -- know-large app-large in-large look-up-large insert-large act-large symbols wide-destructor variables \
-    embedded-wide collide alike words line behind-fault builtins let-embedded parentheses unread
+    embedded-wide collide alike words line behind-fault builtins let-embedded chain parentheses unread
 for name in "$@"; do
     "$(echo "$name" | tr - _)"
 done

@@ -20,7 +20,7 @@
 #   notes     an accepted file with a note on each line: so many functions that no term has, and definitions that nothing uses
 #   row       the same in one line
 #
-# For each size it tells the instructions of both, by valgrind, their ratio, which is to be at most 1.5, of `names` 1.8, of `notes`
+# For each size it tells the instructions of both, by valgrind, their ratio, which is to be at most 1.5, of `names` 1.7, of `notes`
 # and `row` 2, and what `why` takes to the size before, at most 2.2. Both read the file once; of `names` the walk to the place beyond
 # goes through each name, where `compile` counts alone, and sizes of uses are taken once more. Of a piece in no grammar `why` goes over
 # the words once more up to the wrong one, and there tries some hundred words, however deep it stands.

@@ -1,8 +1,9 @@
 //! Runs as JSON: what `to-json` and `from-json` make of bytes.
-use crate::calls::answered;
+use crate::calls::answer;
 use crate::program::Program;
-use sap_outside::MemShelf;
-use sap_rows::{Page, between, enclosed, part};
+use crate::stage::Stage;
+use crate::streams::given;
+use sap_rows::{Page, between, enclose, part};
 
 /// The words of `to-json`.
 pub const TO_JSON: &str = "to-json b.run";
@@ -21,42 +22,44 @@ pub fn show_inside(page: &mut Page, text: &[u8], before: &str, behind: &str) {
     page.bytes(cause.or(between(text, before, behind)).unwrap_or(text));
 }
 
-/// `to` or `from`, the bytes, and what `to-json` or `from-json` writes, or why it refuses them. As `step` and `rule-step` a line of a run
-/// of one step, and the step's array; as `from-step` and `from-rule-step` an array, and the line. What is written as JSON is read again:
-/// where that doesn't give the bytes, what it gives stands behind a bar.
-pub fn json_row<P: Program>(page: &mut Page, row: &str) {
-    let kind = part(row, 0);
-    let (before, behind, first, last) = match kind {
-        "step" => ("process-run\n", "\n", PROCESS, "]}\n"),
-        "rule-step" => ("rule-run\n", "\n", RULES, "]}\n"),
-        "from-step" => (PROCESS, "]}", "process-run\n", "\n"),
-        "from-rule-step" => (RULES, "]}", "rule-run\n", "\n"),
-        _ => ("", "", "", ""),
-    };
-    let words = if kind.starts_with("from") {
-        FROM_JSON
-    } else {
-        TO_JSON
-    };
-    let bytes = enclosed(page.alloc, before, part(row, 1), behind);
-    let text = answered::<P>(page, words, b"", bytes.as_bytes(), 4096);
-    show_inside(page, text.as_bytes(), first, last);
-    if text.as_bytes().starts_with(b"{") {
-        let again = answered::<P>(page, FROM_JSON, b"", text.as_bytes(), 4096);
-        if again.as_bytes() != bytes.as_bytes() {
-            page.word(" | ");
-            show_inside(page, again.as_bytes(), before, behind);
-        }
+// Where the JSON that is found isn't read as the run, what it is read as, behind a bar.
+fn show_again<P: Program>(page: &mut Page, stage: &mut Stage, before: &str, behind: &str) {
+    let json = stage.found.as_bytes();
+    answer::<P>(page, &mut stage.other, given(FROM_JSON), b"", json);
+    if stage.other.as_bytes() != stage.run.as_bytes() {
+        page.word(" | ");
+        show_inside(page, stage.other.as_bytes(), before, behind);
     }
 }
 
-/// What the run of this file is as JSON, and that read again.
-pub fn example_json<P: Program>(page: &mut Page, shelf: &MemShelf, name: &str) {
-    match shelf.files.get(name) {
+/// `to` or `from`, the bytes, and what `to-json` or `from-json` writes, or why it refuses them. As `step` and `rule-step` a line of a run
+/// of one step, and the step's array; as `from-step` and `from-rule-step` an array, and the line. What is written as JSON is read again:
+/// where that doesn't give the bytes, what it gives stands behind a bar.
+pub fn json_row<P: Program>(page: &mut Page, stage: &mut Stage, row: &str) {
+    let (words, before, behind, first, last) = match part(row, 0) {
+        "step" => (TO_JSON, "process-run\n", "\n", PROCESS, "]}\n"),
+        "rule-step" => (TO_JSON, "rule-run\n", "\n", RULES, "]}\n"),
+        "from-step" => (FROM_JSON, PROCESS, "]}", "process-run\n", "\n"),
+        "from-rule-step" => (FROM_JSON, RULES, "]}", "rule-run\n", "\n"),
+        "from" => (FROM_JSON, "", "", "", ""),
+        _ => (TO_JSON, "", "", "", ""),
+    };
+    enclose(&mut stage.run, before, part(row, 1), behind);
+    let run = stage.run.as_bytes();
+    answer::<P>(page, &mut stage.found, given(words), b"", run);
+    show_inside(page, stage.found.as_bytes(), first, last);
+    if stage.found.as_bytes().starts_with(b"{") {
+        show_again::<P>(page, stage, before, behind);
+    }
+}
+
+/// Leaves as found what the run of this file is as JSON, and that read again.
+pub fn example_json<P: Program>(page: &mut Page, stage: &mut Stage, name: &str) {
+    match stage.shelf.files.get(name) {
         Some(run) => {
-            let text = answered::<P>(page, TO_JSON, b"", run.as_slice(), 4096);
-            let again = answered::<P>(page, FROM_JSON, b"", text.as_bytes(), 4096);
-            page.bytes(again.as_bytes());
+            answer::<P>(page, &mut stage.other, given(TO_JSON), b"", run.as_slice());
+            let json = stage.other.as_bytes();
+            answer::<P>(page, &mut stage.found, given(FROM_JSON), b"", json);
         }
         None => page.fail(),
     }

@@ -8,9 +8,11 @@ mod program;
 mod refused;
 mod run_texts;
 mod shown;
+mod stage;
 mod streams;
 mod tables;
 
 pub use program::Program;
-pub use streams::{put_file, shelf_with};
+pub use stage::{Stage, stage_of};
+pub use streams::put_file;
 pub use tables::show_of_calls;

@@ -1,4 +1,5 @@
 //! What is shown of a call.
+use crate::streams::Ends;
 use sap_outside::{Asked, MemSink};
 use sap_rows::{Page, between};
 use sap_theory::{print, read_theory};
@@ -13,10 +14,10 @@ fn show_taken(page: &mut Page, word: &str, sink: &MemSink) {
 }
 
 // The status, and what out and err took.
-fn show_end(page: &mut Page, status: u8, out: &MemSink, err: &MemSink) {
+fn show_end(page: &mut Page, status: u8, ends: &Ends) {
     page.numbered("", status as u64);
-    show_taken(page, " out ", out);
-    show_taken(page, " err ", err);
+    show_taken(page, " out ", &ends.out);
+    show_taken(page, " err ", &ends.err);
 }
 
 const FIRST_RULE: &str = "theory T\nbegin\n\nrule Init:\n  [ ] --[ Init() ]-> [ State_() ]\n";
@@ -86,38 +87,32 @@ fn show_out(page: &mut Page, kind: &str, out: &[u8]) {
 }
 
 // How often the shelf is asked and out and err are written to, the status and the texts.
-fn show_counted(page: &mut Page, status: u8, asked: u64, out: &MemSink, err: &MemSink) {
+fn show_counted(page: &mut Page, status: u8, asked: u64, ends: &Ends) {
     page.numbered("", asked);
-    page.numbered(" ", out.calls);
-    page.numbered(" ", err.calls);
+    page.numbered(" ", ends.out.calls);
+    page.numbered(" ", ends.err.calls);
     page.word(", ");
-    show_end(page, status, out, err);
+    show_end(page, status, ends);
 }
 
 // What out took without faults, the cause that refuses the file, or the status and the texts.
-fn show_answer(page: &mut Page, kind: &str, status: u8, out: &MemSink, err: &MemSink) {
-    match between(err.bytes.as_slice(), "file refused: ", "\n") {
-        Some(cause) if status == 1 && out.bytes.is_empty() => page.bytes(cause),
-        _ if status == 0 && err.bytes.is_empty() => show_out(page, kind, out.bytes.as_slice()),
-        _ => show_end(page, status, out, err),
+fn show_answer(page: &mut Page, kind: &str, status: u8, ends: &Ends) {
+    let (out, err) = (ends.out.bytes.as_slice(), ends.err.bytes.as_slice());
+    match between(err, "file refused: ", "\n") {
+        Some(cause) if status == 1 && out.is_empty() => page.bytes(cause),
+        _ if status == 0 && err.is_empty() => show_out(page, kind, out),
+        _ => show_end(page, status, ends),
     }
 }
 
 /// Of a call with this status, which asked the shelf so often, what the kind asks for: as `calls` how often the shelf is asked and out and
 /// err are written to, the status and the texts; as `theory` the status and the texts; else what out took, the cause that refuses the file,
 /// or the status and the texts.
-pub fn show_call(
-    page: &mut Page,
-    kind: &str,
-    status: u8,
-    asked: u64,
-    out: &MemSink,
-    err: &MemSink,
-) {
+pub fn show_call(page: &mut Page, kind: &str, status: u8, asked: u64, ends: &Ends) {
     match kind {
-        "calls" => show_counted(page, status, asked, out, err),
-        "theory" => show_end(page, status, out, err),
-        _ => show_answer(page, kind, status, out, err),
+        "calls" => show_counted(page, status, asked, ends),
+        "theory" => show_end(page, status, ends),
+        _ => show_answer(page, kind, status, ends),
     }
 }
 

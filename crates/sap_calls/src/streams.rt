@@ -6,8 +6,53 @@ use sap_rows::{Page, number, parted};
 use sap_terms::Items;
 use std::collections::BTreeMap;
 
-/// The words, with a blank between each two.
-pub fn words_of(page: &mut Page, text: &str) -> Vec<String> {
+/// What a program is called with: the words, with a blank between each two; at which call a shelf fails, or 0; how many bytes of a run
+/// it gives at once; the failures of out, and one more, of this put behind so many bytes, or of none where it is 0; the failures of err.
+#[derive(Clone, Copy)]
+pub struct Given<'a> {
+    pub words: &'a str,
+    pub failing: u64,
+    pub piece: u64,
+    pub out: &'a str,
+    pub put: u64,
+    pub taken: u64,
+    pub err: &'a str,
+}
+
+/// These words, with nothing that fails.
+pub fn given(words: &str) -> Given<'_>
+    ensures { 0 < result.piece }
+{
+    Given {
+        words,
+        failing: 0,
+        piece: 4096,
+        out: "",
+        put: 0,
+        taken: 0,
+        err: "",
+    }
+}
+
+/// The words of a call, and what it writes to.
+#[derive(Drop)]
+pub struct Ends {
+    pub words: Vec<String>,
+    pub out: MemSink,
+    pub err: MemSink,
+}
+
+/// Those of a call that is given this.
+pub fn ends(page: &mut Page, given: Given<'_>) -> Ends {
+    Ends {
+        words: words_of(page, given.words),
+        out: sink(page, given.out, given.put, given.taken),
+        err: sink(page, given.err, 0, 0),
+    }
+}
+
+// The words, with a blank between each two.
+fn words_of(page: &mut Page, text: &str) -> Vec<String> {
     let mut words = Items::new(page.alloc);
     for word in text.split_whitespace() {
         page.put(&mut words, String::from_str(page.alloc, word).ok());
@@ -15,8 +60,8 @@ pub fn words_of(page: &mut Page, text: &str) -> Vec<String> {
     words.into_vec()
 }
 
-/// A sink with these failures, parted by commas: `1 5` where the first call fails after five bytes.
-pub fn sink(page: &mut Page, failures: &str) -> MemSink {
+// A sink with these failures, parted by commas, `1 5` where the first call fails after five bytes, and with one more.
+fn sink(page: &mut Page, failures: &str, put: u64, taken: u64) -> MemSink {
     let mut fail_on = Items::new(page.alloc);
     for failure in failures.split(',') {
         if !failure.is_empty() {
@@ -25,6 +70,7 @@ pub fn sink(page: &mut Page, failures: &str) -> MemSink {
             page.put(&mut fail_on, Some(failure));
         }
     }
+    page.put(&mut fail_on, Some((put, taken)));
     MemSink {
         bytes: Vec::new(page.alloc),
         fail_on: fail_on.into_vec(),

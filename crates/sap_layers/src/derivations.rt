@@ -4,12 +4,12 @@ ghost use Rattle.sap_terms.specs.View.{tree};
 ghost use Rattle.sap_derive.specs.Found.{IsSmallMessage};
 
 use crate::desk::Desk;
-use crate::notation::list;
+use crate::notation::fill;
 use crate::show::{Show, show_value};
 use sap_derive::{Derivation, Line, Search, derive};
 use sap_rewrite::is_message;
 use sap_rows::{Page, part};
-use sap_terms::{Copied, Items, MOST_TERM_NODES, Mem, Signature, Sort, Term, TermList};
+use sap_terms::{Copied, MOST_TERM_NODES, Mem, Signature, Sort, Term, TermList};
 use std::alloc::Global;
 
 // As a line of a run has it.
@@ -140,9 +140,9 @@ fn show_searched(
 /// goals there are.
 pub fn derivations_row(page: &mut Page, desk: &mut Desk, row: &str) {
     desk.begin(page, part(row, 1), part(row, 2));
-    let goals: Items<Term> = list(page, &desk.signature, '|', part(row, 3));
     let (entries, sig) = (desk.terms.as_slice(), &desk.signature);
-    match (part(row, 0), goals.as_slice()) {
+    fill(page, &mut desk.goals, sig, '|', part(row, 3));
+    match (part(row, 0), desk.goals.as_slice()) {
         ("derive", [goal]) => show_derived(page, sig, entries, goal),
         ("read", goals) => page.numbered("", goals.len() as u64),
         (kind, goals) => {

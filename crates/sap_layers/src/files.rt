@@ -1,10 +1,11 @@
 //! Files as they are read: their processes, sizes and instances.
+use crate::desk::Desk;
 use crate::notation::list;
 use crate::show::{show_made, show_process, show_value};
 use sap_place::places;
 use sap_process::{Children, Process, substitute};
 use sap_read::{File, read_file_boxed};
-use sap_rows::{Page, file_bytes, part};
+use sap_rows::{Page, enclose_file, part};
 use sap_terms::{Bindings, Mem, Signature, Symbol};
 use std::alloc::Global;
 
@@ -21,15 +22,12 @@ fn show_symbols(page: &mut Page, symbols: &[Symbol]) {
 
 // Of a copy of the file the symbols behind those of pairs, and the process.
 fn show_file(page: &mut Page, file: &File) {
-    match file.boxed_copy(page.alloc) {
-        Ok(copy) => {
-            if let [_, _, _, others @ ..] = copy.signature.symbols() {
-                show_symbols(page, others);
-            }
-            show_process(page, &copy.process);
-            drop(copy);
+    if let Some(copy) = page.got(file.boxed_copy(page.alloc)) {
+        if let [_, _, _, others @ ..] = copy.signature.symbols() {
+            show_symbols(page, others);
         }
-        Err(_) => page.fail(),
+        show_process(page, &copy.process);
+        drop(copy);
     }
 }
 
@@ -39,12 +37,9 @@ fn instance(alloc: Global, p: &Process, b: &Bindings) -> Result<Box<Process>, Me
 
 fn show_instance(page: &mut Page, sig: &Signature, p: &Process, bound: &str) {
     let bound = list(page, sig, ';', bound);
-    match instance(page.alloc, p, &bound) {
-        Ok(instance) => {
-            show_process(page, &instance);
-            drop(instance);
-        }
-        Err(_) => page.fail(),
+    if let Some(instance) = page.got(instance(page.alloc, p, &bound)) {
+        show_process(page, &instance);
+        drop(instance);
     }
 }
 
@@ -70,13 +65,10 @@ fn show_kind(page: &mut Page, sig: &Signature, file: &File, row: &str) {
 /// Of a file that isn't refused: `process`, its symbols behind those of pairs and a copy of its process; `places`, copies of the places of
 /// that, each by its facts of control, with the variables in scope, and by the labels of its open locks; `size`, its nodes and
 /// levels; `whole` or `behind`, bindings, and the instance of the process or of what follows its head.
-pub fn files_row(page: &mut Page, sig: &Signature, row: &str) {
-    let bytes = file_bytes(page.alloc, part(row, 1));
-    match read_file_boxed(page.alloc, bytes.as_bytes()) {
-        Ok(file) => {
-            show_kind(page, sig, &file, row);
-            drop(file);
-        }
-        Err(_) => page.fail(),
+pub fn files_row(page: &mut Page, desk: &mut Desk, row: &str) {
+    enclose_file(&mut desk.text, part(row, 1));
+    if let Some(file) = page.got(read_file_boxed(page.alloc, desk.text.as_bytes())) {
+        show_kind(page, &desk.signature, &file, row);
+        drop(file);
     }
 }

@@ -1,12 +1,11 @@
 //! Formulas: printed and judged.
-use crate::notation::{FromText, facts, first, list, name, tokens_of, trace};
+use crate::desk::Desk;
+use crate::notation::{FromText, facts, fill, first, name, words_of};
 use crate::show::{Show, show_value};
-use crate::theories::begin;
 use sap_formula::{Formula, Lemma, Mode, cost};
 use sap_judge::{ReadyTrace, Verdict, judge};
 use sap_read::read_formula;
-use sap_rows::{Page, enclosed, part};
-use sap_rule::Theory;
+use sap_rows::{Page, part};
 use sap_terms::{Items, Signature, Trace};
 use sap_theory::print;
 
@@ -20,9 +19,9 @@ fn action(page: &mut Page, sig: &Signature, text: &str) -> Option<Formula> {
 
 // The formula that the text spells as in a file.
 fn spelled(page: &mut Page, sig: &Signature, text: &str) -> Option<Formula> {
-    let bytes = enclosed(page.alloc, "", text, "\"");
-    let found = tokens_of(page.alloc, bytes.as_bytes());
-    first(read_formula(page.alloc, sig, bytes.as_bytes(), &found, 0))
+    let words = words_of(page.alloc, text, "\"");
+    let bytes = words.bytes.as_bytes();
+    first(read_formula(page.alloc, sig, bytes, &words.found, 0))
 }
 
 // As it is spelled in a file, before it is checked; or behind `+` a fact at a time, which may be persistent and have fresh names.
@@ -49,10 +48,10 @@ impl FromText for Lemma {
 }
 
 /// A formula, and its text in the lemma l of a theory in which nothing else stands.
-pub fn formulas_row(page: &mut Page, t: &mut Theory, row: &str) {
-    begin(page, t, "");
-    let lemmas = list(page, &t.signature, '\n', part(row, 0));
-    page.set(&mut t.lemmas, Some(lemmas));
+pub fn formulas_row(page: &mut Page, desk: &mut Desk, row: &str) {
+    desk.begin_theory(page, "");
+    let t = &mut desk.theory;
+    fill(page, &mut t.lemmas, &t.signature, '\n', part(row, 0));
     let before = "theory T\nbegin\n\nlemma l:\n  all-traces\n  \"";
     page.text(print(page.alloc, t), before, "\"\n\nend\n");
 }
@@ -68,12 +67,12 @@ impl Show for Verdict {
 }
 
 /// The facts of times with bars between them, a formula, and what the judge says.
-pub fn judgements_row(page: &mut Page, t: &mut Theory, row: &str) {
-    begin(page, t, "");
-    let trace = trace(page, &t.signature, part(row, 0));
-    let formulas: Items<Formula> = list(page, &t.signature, '\n', part(row, 1));
-    for f in formulas.as_slice() {
-        show_value(judge(page.alloc, f, &trace), page);
+pub fn judgements_row(page: &mut Page, desk: &mut Desk, row: &str) {
+    desk.begin_trace(page, "", part(row, 0));
+    let sig = &desk.theory.signature;
+    fill(page, &mut desk.formulas, sig, '\n', part(row, 1));
+    for f in desk.formulas.as_slice() {
+        show_value(judge(page.alloc, f, &desk.trace), page);
     }
 }
 
@@ -90,15 +89,12 @@ fn show_costs(page: &mut Page, trace: &Trace, ready: &ReadyTrace<'_>, formulas: 
 
 /// The facts of times with bars between them, formulas with semicolons between them, and what each costs and the judge says
 /// of it, on the trace made ready once.
-pub fn costs_row(page: &mut Page, t: &mut Theory, row: &str) {
-    begin(page, t, "");
-    let trace = trace(page, &t.signature, part(row, 0));
-    let formulas: Items<Formula> = list(page, &t.signature, ';', part(row, 1));
-    match ReadyTrace::of(page.alloc, &trace) {
-        Ok(ready) => {
-            show_costs(page, &trace, &ready, formulas.as_slice());
-            drop(ready);
-        }
-        Err(_) => page.fail(),
+pub fn costs_row(page: &mut Page, desk: &mut Desk, row: &str) {
+    desk.begin_trace(page, "", part(row, 0));
+    let sig = &desk.theory.signature;
+    fill(page, &mut desk.formulas, sig, ';', part(row, 1));
+    if let Some(ready) = page.got(ReadyTrace::of(page.alloc, &desk.trace)) {
+        show_costs(page, &desk.trace, &ready, desk.formulas.as_slice());
+        drop(ready);
     }
 }

@@ -1,11 +1,9 @@
 //! Traces through a guard, one time after another.
-use crate::notation::trace;
+use crate::desk::Desk;
 use crate::show::{Show, show_value};
-use crate::theories::begin;
 use sap_refusals::broken_line;
 use sap_restrict::{Admit, Guard, has_one_reserved};
 use sap_rows::{Page, part};
-use sap_rule::Theory;
 use sap_terms::FactList;
 
 impl Show for Admit {
@@ -29,15 +27,21 @@ fn show_time(page: &mut Page, guard: &mut Guard, time: &FactList) {
     }
 }
 
-/// Symbols, the facts of times with bars between them, and for each time `+` where a guard takes it up, else the restriction that
-/// it breaks; the guard goes on as if that time had not come.
-pub fn guards_row(page: &mut Page, t: &mut Theory, row: &str) {
-    begin(page, t, part(row, 0));
-    let mut guard = Guard::new(page.alloc);
+// Of each time in turn, with blanks between them.
+fn show_times(page: &mut Page, guard: &mut Guard, times: &[FactList]) {
     let mut before = "";
-    for time in trace(page, &t.signature, part(row, 1)).as_slice() {
+    for time in times {
         page.word(before);
-        show_time(page, &mut guard, time);
+        show_time(page, guard, time);
         before = " ";
     }
+}
+
+/// Symbols, the facts of times with bars between them, and for each time `+` where a guard takes it up, else the restriction that
+/// it breaks; the guard goes on as if that time had not come.
+pub fn guards_row(page: &mut Page, desk: &mut Desk, row: &str) {
+    desk.begin_trace(page, part(row, 0), part(row, 1));
+    let mut guard = Guard::new(page.alloc);
+    show_times(page, &mut guard, desk.trace.as_slice());
+    drop(guard);
 }

@@ -1,7 +1,7 @@
 //! What the texts of parts stand for: names, terms, facts, rules and signatures.
 use sap_grammar::read_facts;
 use sap_read::{FILE_LIMITS, read_term};
-use sap_rows::{Page, enclosed, number, split, written};
+use sap_rows::{Page, enclosed, number, split};
 use sap_rule::Rule;
 use sap_terms::{
     Binding, Bindings, Builtin, Copied, Fact, FactList, Items, Mem, Name, SigFault, Signature,
@@ -9,7 +9,7 @@ use sap_terms::{
 };
 use sap_text::{Token, tokens};
 use std::alloc::Global;
-use std::str;
+use std::mem;
 
 /// The name of these bytes; none where memory is wanting.
 pub fn name(alloc: Global, text: &str) -> Option<Name> {
@@ -22,7 +22,25 @@ pub trait FromText: Sized {
     fn from_text(page: &mut Page, sig: &Signature, text: &str) -> Option<Self>;
 }
 
-/// What the texts stand for that are between the marks, without blanks around them; an empty one stands for nothing.
+/// The list holds what the texts stand for that are between the marks, without blanks around them; an empty one stands for nothing.
+pub fn fill<T: FromText + Drop>(
+    page: &mut Page,
+    list: &mut Items<T>,
+    sig: &Signature,
+    mark: char,
+    texts: &str,
+) {
+    drop(mem::replace(list, Items::new(page.alloc)));
+    for text in texts.split(mark) {
+        let text = text.trim();
+        if !text.is_empty() {
+            let item = T::from_text(page, sig, text);
+            page.put(list, item);
+        }
+    }
+}
+
+/// A new list of these.
 pub fn list<T: FromText + Drop>(
     page: &mut Page,
     sig: &Signature,
@@ -30,13 +48,7 @@ pub fn list<T: FromText + Drop>(
     texts: &str,
 ) -> Items<T> {
     let mut list = Items::new(page.alloc);
-    for text in texts.split(mark) {
-        let text = text.trim();
-        if !text.is_empty() {
-            let item = T::from_text(page, sig, text);
-            page.put(&mut list, item);
-        }
-    }
+    fill(page, &mut list, sig, mark, texts);
     list
 }
 
@@ -115,12 +127,21 @@ pub fn last_copy<T: Copied + Drop, E: Drop>(
     page.boxed(copies.into_vec().pop())
 }
 
-/// The tokens of the bytes; none where a fault stands in them.
-pub fn tokens_of(alloc: Global, bytes: &[u8]) -> Vec<Token> {
-    match tokens(alloc, bytes, 64) {
+/// The bytes that a text stands for, and their tokens; none where a fault stands in them.
+#[derive(Drop)]
+pub struct Words {
+    pub bytes: Page,
+    pub found: Vec<Token>,
+}
+
+/// Those of a text, with another behind it.
+pub fn words_of(alloc: Global, text: &str, behind: &str) -> Words {
+    let bytes = enclosed(alloc, "", text, behind);
+    let found = match tokens(alloc, bytes.as_bytes(), 64) {
         Ok(found) => found,
         Err(_) => Vec::new(alloc),
-    }
+    };
+    Words { bytes, found }
 }
 
 // That a variable of this digit stands for a fresh name of this number: ~n1 for the fresh name 1.
@@ -144,12 +165,16 @@ fn put_fresh_names(page: &mut Page, names: &mut Bindings, text: &str) {
     }
 }
 
-// The term that the text spells as a file has it, with fresh names, and with each bound variable replaced.
+// The term that the text spells as a file has it.
+fn spelled(alloc: Global, sig: &Signature, text: &str) -> Option<Term> {
+    let words = words_of(alloc, text, "");
+    first(read_term(alloc, sig, words.bytes.as_bytes(), &words.found, 0))
+}
+
+// The same with fresh names, and with each bound variable replaced.
 fn instance(page: &mut Page, sig: &Signature, text: &str, mut bound: Bindings) -> Option<Term> {
     put_fresh_names(page, &mut bound, text);
-    let bytes = written(page.alloc, text);
-    let found = tokens_of(page.alloc, bytes.as_bytes());
-    match first(read_term(page.alloc, sig, bytes.as_bytes(), &found, 0)) {
+    match spelled(page.alloc, sig, text) {
         Some(term) => {
             let made = subst(page.alloc, &term, &bound).ok();
             drop(term);
@@ -159,61 +184,73 @@ fn instance(page: &mut Page, sig: &Signature, text: &str, mut bound: Bindings) -
     }
 }
 
-// The facts that the bytes spell up to the bracket at their end.
-fn spelled_facts(alloc: Global, sig: &Signature, bytes: &[u8]) -> Option<FactList> {
-    let found = tokens_of(alloc, bytes);
-    match read_facts(alloc, sig, FILE_LIMITS, bytes, true, "]", found.as_slice()) {
+// The facts that the text spells.
+fn spelled_facts(alloc: Global, sig: &Signature, text: &str) -> Option<FactList> {
+    let words = words_of(alloc, text, " ]");
+    let (bytes, found) = (words.bytes.as_bytes(), words.found.as_slice());
+    match read_facts(alloc, sig, FILE_LIMITS, bytes, true, "]", found) {
         Ok(Some((facts, []))) => Some(facts),
         _ => None,
     }
 }
 
-// The fact with each bound variable replaced.
-fn named_fact(alloc: Global, fact: &Fact, names: &Bindings) -> Option<Fact> {
-    let name = fact.name.copy(alloc).ok()?;
-    let mut args = TermList::new(alloc);
-    for arg in fact.args.as_slice() {
-        args.push(subst(alloc, arg, names).ok()?).ok()?;
+// The terms with each bound variable replaced.
+fn named_terms(page: &mut Page, terms: &[Term], names: &Bindings) -> TermList {
+    let mut args = TermList::new(page.alloc);
+    for term in terms {
+        match subst(page.alloc, term, names) {
+            Ok(term) => page.note(args.push(term)),
+            Err(_) => page.fail(),
+        }
     }
-    Some(Fact {
-        name,
-        persistent: fact.persistent,
-        args,
-    })
+    args
+}
+
+// Adds the facts with the fresh names of the text.
+fn put_named(page: &mut Page, list: &mut FactList, facts: &[Fact], text: &str) {
+    let mut names = Bindings::new(page.alloc);
+    put_fresh_names(page, &mut names, text);
+    for fact in facts {
+        let args = named_terms(page, fact.args.as_slice(), &names);
+        page.put(list, named_fact(page.alloc, fact, args));
+    }
+}
+
+// The fact with these terms.
+fn named_fact(alloc: Global, fact: &Fact, args: TermList) -> Option<Fact> {
+    match fact.name.copy(alloc) {
+        Ok(name) => Some(Fact {
+            name,
+            persistent: fact.persistent,
+            args,
+        }),
+        Err(_) => None,
+    }
 }
 
 /// The facts that the text spells under the signature, with commas between them and with fresh names.
 pub fn facts(page: &mut Page, sig: &Signature, text: &str) -> FactList {
     let mut list = FactList::new(page.alloc);
-    let bytes = enclosed(page.alloc, "", text, " ]");
-    let mut names = Bindings::new(page.alloc);
-    put_fresh_names(page, &mut names, text);
-    match spelled_facts(page.alloc, sig, bytes.as_bytes()) {
-        Some(spelled) => {
-            for fact in spelled.as_slice() {
-                page.put(&mut list, named_fact(page.alloc, fact, &names));
-            }
-            drop(spelled);
+    match spelled_facts(page.alloc, sig, text) {
+        Some(facts) => {
+            put_named(page, &mut list, facts.as_slice(), text);
+            drop(facts);
         }
         None => page.fail(),
     }
     list
 }
 
-/// The facts of times, with bars between them.
-pub fn trace(page: &mut Page, sig: &Signature, text: &str) -> Trace {
-    let mut trace = Trace::new(page.alloc);
-    let bytes = written(page.alloc, text);
-    match str::from_utf8(bytes.as_bytes()) {
-        Ok(text) if !text.is_empty() => {
-            for time in text.split('|') {
-                let facts = facts(page, sig, time);
-                page.put(&mut trace, Some(facts));
-            }
+/// The trace has the facts of these times, with bars between them.
+pub fn fill_trace(page: &mut Page, trace: &mut Trace, sig: &Signature, text: &str) {
+    drop(mem::replace(trace, Trace::new(page.alloc)));
+    let bytes = enclosed(page.alloc, "", text, "");
+    if !bytes.as_str().is_empty() {
+        for time in bytes.as_str().split('|') {
+            let facts = facts(page, sig, time);
+            page.put(trace, Some(facts));
         }
-        _ => {}
     }
-    trace
 }
 
 /// Adds a builtin, or a symbol with its arity, behind `-` where it is private, and gives the answer.

@@ -4,7 +4,7 @@ use crate::notation::{last_copy, list};
 use crate::show::{Show, show_value};
 use crate::theories::rules_row;
 use sap_refusals::rule_line;
-use sap_rows::{Page, enclosed, part};
+use sap_rows::{Page, enclose, part};
 use sap_rule::Theory;
 use sap_run_texts::read_rrun;
 use sap_runs::RStep;
@@ -40,12 +40,10 @@ fn bind(step: &mut RStep, bound: Bindings) {
 }
 
 // Takes the line with these bindings, and shows what it shows, or why it is refused.
-fn take_line(page: &mut Page, sig: &Signature, run: &mut RuleState, row: &str) {
-    let bytes = enclosed(page.alloc, "rule-run\n", part(row, 1), "\n");
-    let bound = list(page, sig, ';', part(row, 2));
-    match last_copy(page, read_rrun(page.alloc, bytes.as_bytes())) {
+fn take_line(page: &mut Page, sig: &Signature, run: &mut RuleState, text: &[u8], bound: &str) {
+    match last_copy(page, read_rrun(page.alloc, text)) {
         Some(mut step) => {
-            bind(&mut step, bound);
+            bind(&mut step, list(page, sig, ';', bound));
             show_value(run.step(page.alloc, &step), page);
             drop(step);
         }
@@ -58,14 +56,17 @@ fn take_line(page: &mut Page, sig: &Signature, run: &mut RuleState, row: &str) {
 pub fn runs_row(page: &mut Page, desk: &mut Desk, row: &str) {
     match part(row, 0) {
         "start" => {
-            let started = started(page.alloc, &desk.theory).ok();
-            page.set(&mut desk.run, started);
+            page.set(&mut desk.run, started(page.alloc, &desk.theory).ok());
             show_value(desk.run.is_some(), page);
         }
-        "line" => match &mut desk.run {
-            Some(run) => take_line(page, &desk.signature, run, row),
-            None => page.fail(),
-        },
-        _ => rules_row(page, &mut desk.theory, row),
+        "line" => {
+            enclose(&mut desk.text, "rule-run\n", part(row, 1), "\n");
+            let (sig, text) = (&desk.signature, desk.text.as_bytes());
+            match &mut desk.run {
+                Some(run) => take_line(page, sig, run, text, part(row, 2)),
+                None => page.fail(),
+            }
+        }
+        _ => rules_row(page, desk, row),
     }
 }

@@ -5,7 +5,7 @@ use crate::desk::Desk;
 use crate::show::show_value;
 use sap_rows::{Page, part};
 use sap_share::Table;
-use sap_terms::{Mem, Term};
+use sap_terms::Term;
 use std::alloc::Global;
 
 // The number of a term, if the table can have it.
@@ -48,11 +48,8 @@ fn show_in(page: &mut Page, table: &mut Table, kind: &str, terms: &[Term]) {
 /// `form`, a term, and its normal form, with how many nodes the two have, and how many numbers were given.
 pub fn sharing_row(page: &mut Page, desk: &mut Desk, row: &str) {
     desk.begin(page, part(row, 1), part(row, 2));
-    match Table::new(page.alloc, &desk.signature) {
-        Ok(mut table) => {
-            show_in(page, &mut table, part(row, 0), desk.terms.as_slice());
-            drop(table);
-        }
-        Err(Mem) => page.fail(),
+    if let Some(mut table) = page.got(Table::new(page.alloc, &desk.signature)) {
+        show_in(page, &mut table, part(row, 0), desk.terms.as_slice());
+        drop(table);
     }
 }

@@ -31,7 +31,7 @@ pub fn show_of_layers(page: &mut Page, desk: &mut Desk, table: &str, row: &str) 
         "normal-forms" | "matching" => terms_row(page, desk, part(row, 1), 2, row),
         "signatures" => signatures_row(page, desk, row),
         "additions" => additions_row(page, &mut desk.signature, row),
-        "copies" => copies_row(page, &desk.signature, row),
+        "copies" => copies_row(page, desk, row),
         "sharing" => sharing_row(page, desk, row),
         "deductions" | "derivations" => derivations_row(page, desk, row),
         "piles" => piles_row(page, &desk.signature, &mut desk.pile, row),
@@ -43,15 +43,15 @@ pub fn show_of_layers(page: &mut Page, desk: &mut Desk, table: &str, row: &str) 
 /// The same of what stands on rules and processes.
 pub fn show_found(page: &mut Page, desk: &mut Desk, table: &str, row: &str) {
     match table {
-        "rules" => rules_row(page, &mut desk.theory, row),
+        "rules" => rules_row(page, desk, row),
         "short-runs" => short_runs_row(page, row),
         "rule-runs" => runs_row(page, desk, row),
         "process-runs" | "knowledge" => processes_row(page, desk, row),
-        "formulas" => formulas_row(page, &mut desk.theory, row),
-        "judgements" => judgements_row(page, &mut desk.theory, row),
-        "costs" => costs_row(page, &mut desk.theory, row),
-        "guards" => guards_row(page, &mut desk.theory, row),
-        "files" => files_row(page, &desk.signature, row),
-        _ => read_row(page, row),
+        "formulas" => formulas_row(page, desk, row),
+        "judgements" => judgements_row(page, desk, row),
+        "costs" => costs_row(page, desk, row),
+        "guards" => guards_row(page, desk, row),
+        "files" => files_row(page, desk, row),
+        _ => read_row(page, desk, row),
     }
 }

@@ -1,12 +1,12 @@
 //! Terms and facts as they are read, rows of terms, and signatures.
 use crate::desk::Desk;
-use crate::notation::{add, first, list, tokens_of};
+use crate::notation::{add, fill, first, list, words_of};
 use crate::show::{Show, show_value};
 use indexmap::IndexSet;
 use sap_read::{read_fact, read_term};
 use sap_rewrite::{is_message, match_around, match_pattern, normal, normal_within, same_modulo};
-use sap_rows::{Page, number, part, written};
-use sap_terms::{Copied, Items, Name, SigFault, Signature, Sort, Term, is_reserved};
+use sap_rows::{Page, number, part};
+use sap_terms::{Copied, Name, SigFault, Signature, Sort, Term, is_reserved};
 
 /// `term` or `fact`, a text, the number of the token where it begins, and the term or fact with the number of the token behind
 /// it, or `none`; `levels`, a text, 0, and the levels of the term, 0 where there is none. h of one argument is held, and the
@@ -14,15 +14,17 @@ use sap_terms::{Copied, Items, Name, SigFault, Signature, Sort, Term, is_reserve
 pub fn read_terms_row(page: &mut Page, desk: &mut Desk, row: &str) {
     desk.begin(page, "hashing signing c/0 -C/0", "");
     let at = number(page, part(row, 2));
-    let bytes = written(page.alloc, part(row, 1));
-    let found = tokens_of(page.alloc, bytes.as_bytes());
-    let read = bytes.as_bytes();
-    let sig = &desk.signature;
+    let words = words_of(page.alloc, part(row, 1), "");
+    let (sig, read) = (&desk.signature, words.bytes.as_bytes());
     match part(row, 0) {
-        "term" => show_value(read_term(page.alloc, sig, read, &found, at), page),
-        "fact" => show_value(read_fact(page.alloc, sig, read, &found, at), page),
-        _ => show_levels(page, first(read_term(page.alloc, sig, read, &found, at))),
+        "term" => show_value(read_term(page.alloc, sig, read, &words.found, at), page),
+        "fact" => show_value(read_fact(page.alloc, sig, read, &words.found, at), page),
+        _ => show_levels(
+            page,
+            first(read_term(page.alloc, sig, read, &words.found, at)),
+        ),
     }
+    drop(words);
 }
 
 fn show_levels(page: &mut Page, term: Option<Term>) {
@@ -67,15 +69,12 @@ fn show_both(page: &mut Page, sig: &Signature, s: &Term, t: &Term, row: &str) {
 
 // The nodes and the levels of a copy that is the same.
 fn show_size_of_copy(page: &mut Page, t: &Term) {
-    match t.copy(page.alloc) {
-        Ok(copy) => {
-            show_value((copy.nodes(), copy.levels()), page);
-            if !copy.same(t) {
-                page.fail();
-            }
-            drop(copy);
+    if let Some(copy) = page.got(t.copy(page.alloc)) {
+        show_value((copy.nodes(), copy.levels()), page);
+        if !copy.same(t) {
+            page.fail();
         }
-        Err(_) => page.fail(),
+        drop(copy);
     }
 }
 
@@ -128,9 +127,8 @@ fn show_symbol(page: &mut Page, sig: &Signature, place: u64) {
 }
 
 // Whether each name is reserved, or a destructor.
-fn show_names(page: &mut Page, sig: &Signature, kind: &str, text: &str) {
-    let names: Items<Name> = list(page, sig, ' ', text);
-    for f in names.as_slice() {
+fn show_names(page: &mut Page, sig: &Signature, kind: &str, names: &[Name]) {
+    for f in names {
         if kind == "reserved" {
             show_value(is_reserved(f), page);
         } else {
@@ -145,11 +143,13 @@ pub fn signatures_row(page: &mut Page, desk: &mut Desk, row: &str) {
     desk.begin(page, part(row, 1), "");
     let copy = desk.signature.copy(page.alloc).ok();
     page.set(&mut desk.signature, copy);
+    let sig = &desk.signature;
     if part(row, 0) == "symbol" {
         let place = number(page, part(row, 2));
-        show_symbol(page, &desk.signature, place);
+        show_symbol(page, sig, place);
     } else {
-        show_names(page, &desk.signature, part(row, 0), part(row, 2));
+        fill(page, &mut desk.names, sig, ' ', part(row, 2));
+        show_names(page, sig, part(row, 0), desk.names.as_slice());
     }
 }
 

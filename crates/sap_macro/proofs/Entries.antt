@@ -67,7 +67,7 @@ all_indexed ds n index same h f = by (value_at index f) (h f) where
   by None i = i ∙ ap (λ m. is_known (defined (drop m ds)) f) same ∙ ap (λ xs. is_known (defined xs) f) (beyond ds)
   by (Some j) i = i
 
-length_of : (defs : List code.Definition) → length (definitions defs) ≡ length defs
+pub length_of : (defs : List code.Definition) → length (definitions defs) ≡ length defs
 length_of [] = refl
 length_of (d ∷ ds) = ap suc (length_of ds)
 

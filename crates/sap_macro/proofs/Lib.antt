@@ -20,9 +20,12 @@ pub mod PlainUses
 pub mod Bound
 pub mod Choices
 pub mod Entries
+pub mod Endings
+pub mod EndsByHand
 pub mod Built
 pub mod Forms
 pub mod Sized
+pub mod PutSizes
 pub mod Watched
 pub mod Replacing
 pub mod SameSizes

@@ -8,6 +8,7 @@ pub mod Walked
 pub mod NewNames
 pub mod Expansion
 pub mod ExpansionExamples
+pub mod EndExamples
 pub mod Replaced
 pub mod Instances
 pub mod UsesAreInstances
@@ -18,6 +19,7 @@ pub mod Sources
 pub mod KeptSizes
 pub mod Order
 pub mod Indexed
+pub mod Ends
 pub mod Seen
 pub mod MacroCauses
 pub mod code

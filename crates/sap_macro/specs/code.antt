@@ -6,3 +6,4 @@ pub mod Taking
 pub mod Names
 pub mod Entering
 pub mod Sizes
+pub mod Ending

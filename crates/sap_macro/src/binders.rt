@@ -8,12 +8,14 @@ ghost use Rattle.sap_macro.specs.Expansion.{binding_vars};
 ghost use Rattle.sap_macro.specs.Order.{AreInOrder};
 ghost use Rattle.sap_macro.specs.Sources.{definitions, doing, written};
 ghost use Rattle.sap_macro.specs.code.Heads.{head_names, names_in, other_names};
+ghost use Rattle.sap_macro.specs.Ends.{AreEnds};
 ghost use Rattle.sap_macro.specs.Indexed.{AreIndexed};
 ghost use Rattle.sap_macro.specs.code.Names.{with_names};
 
 use crate::below::below;
 use crate::definition::DefinitionList;
-use crate::index::{Index, form_of};
+use crate::ends::{Ends, form_of};
+use crate::index::Index;
 use crate::source::{Below, Doing, Source};
 use sap_process::rule_vars;
 use sap_terms::{Copied, FactList, Mem, Name, NameMap, NameSet, Term, Var, Vars, push_vars};
@@ -107,27 +109,29 @@ pub(crate) fn add_names(
     alloc: Global,
     defs: &DefinitionList,
     index: &Index,
+    ends: &Ends,
     terms: &NameMap<Term>,
     own: &mut NameSet,
     source: &Source,
 ) -> Result<(), Mem>
     requires order { AreInOrder [] (definitions defs.now) }
     requires index { AreIndexed (definitions defs.now) index.now }
+    requires ends { AreEnds (definitions defs.now) ends.now }
     ensures { OnOk result (own.new ≡ with_names own.old (names_in (definitions defs.now)
         (λ x. is_some (value_at terms.now x)) (written source.now))) }
 {
-    let form = form_of(defs, index, source);
+    let form = form_of(defs, index, ends, source);
     add_head(alloc, terms, own, form)?;
     match below(form) {
         Below::Nothing => Ok(()),
         Below::Use(_, _) => Ok(()),
         Below::One(p) => {
-            add_names(alloc, defs, index, terms, own, p)?;
+            add_names(alloc, defs, index, ends, terms, own, p)?;
             Ok(())
         }
         Below::Two(p, q) => {
-            add_names(alloc, defs, index, terms, own, p)?;
-            add_names(alloc, defs, index, terms, own, q)?;
+            add_names(alloc, defs, index, ends, terms, own, p)?;
+            add_names(alloc, defs, index, ends, terms, own, q)?;
             Ok(())
         }
     }

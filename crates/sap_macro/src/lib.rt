@@ -7,6 +7,8 @@ mod building;
 mod by_hand;
 mod chosen;
 mod definition;
+mod ending_laws;
+mod ends;
 mod heads;
 mod index;
 mod laws;
@@ -24,6 +26,8 @@ pub use by_hand::{
     macro_causes_by_hand, written_runs_by_hand,
 };
 pub use definition::{Definition, DefinitionList};
+pub use ending_laws::{chains_have_one_end, ends_by_hand};
+pub use ends::{Ends, definition_with_end, end_of, ends_of};
 pub use index::{Index, definition_named, index_of};
 pub use laws::{
     alike_configurations_show_the_same, expansions_are_one, located_is_written,
@@ -31,7 +35,7 @@ pub use laws::{
     plain_uses_have_parameters, same_up_to_names_is_symmetric_and_transitive,
     same_up_to_names_show_the_same, sizes_are_one, uses_are_instances, uses_show_their_instances,
 };
-pub use seeing::seen;
+pub use seeing::{seen, seen_by};
 pub use sizes::{Size, expanded_size, use_sizes};
 pub use sorting_laws::{
     arguments_by_hand, plain_bodies_are_in_order, sorted_by_hand, sorting_keeps_scopes,

@@ -1,5 +1,5 @@
 //! How large expansions are.
-ghost use Rattle.std.specs.Prelude.{◌≡◌, ℕ, List, [], min, IfOk, OnOk};
+ghost use Rattle.std.specs.Prelude.{◌≡◌, ◌+◌, ℕ, List, [], max, min, IfOk, OnOk};
 ghost use Rattle.sap_terms.specs.NameMap.{value_at};
 ghost use Rattle.sap_terms.specs.Tree.{Tree};
 ghost use Rattle.sap_process.specs.Proc.{node_count, level_count};
@@ -12,7 +12,7 @@ ghost use Rattle.sap_macro.specs.code.Sizes.{levels_in, nodes_in, levels_of, nod
 
 use crate::definition::{Definition, DefinitionList};
 use crate::source::Source;
-use sap_terms::{Copied, Mem, NameMap};
+use sap_terms::{Copied, Mem, Name, NameMap};
 use std::alloc::Global;
 
 /// How many places an expansion has, and how many levels; from the greatest u64 on, that number.
@@ -22,33 +22,63 @@ pub struct Size {
     pub levels: u64,
 }
 
-// The places, where the names have as many as is kept of them. It recurses as deep as the process.
-fn nodes(sizes: &NameMap<Size>, source: &Source) -> u64
-    ensures { result ≡ min (nodes_in sizes.now (written source.now)) u64.MAX }
+// What has nothing below it.
+fn alone() -> Size
+    ensures nodes { result.nodes ≡ 1 }
+    ensures levels { result.levels ≡ 1 }
 {
-    match source {
-        Source::Nil(_) => 1,
-        Source::Call(_, f, _) => sizes.get(f).map_or(1, |s| s.nodes),
-        Source::Par(_, p, q) | Source::If(_, _, _, p, q) | Source::Lookup(_, _, _, p, q) => {
-            nodes(sizes, p)
-                .saturating_add(nodes(sizes, q))
-                .saturating_add(1)
-        }
-        Source::Rep(_, p) | Source::Act(_, _, p) => nodes(sizes, p).saturating_add(1),
+    Size {
+        nodes: 1,
+        levels: 1,
     }
 }
 
-// The levels, where the names have as many as is kept of them. It recurses as deep as the process.
-fn levels(sizes: &NameMap<Size>, source: &Source) -> u64
-    ensures { result ≡ min (levels_in sizes.now (written source.now)) u64.MAX }
+// What has one process below it.
+fn over(below: Size) -> Size
+    ensures nodes { result.nodes ≡ min (below.nodes + 1) u64.MAX }
+    ensures levels { result.levels ≡ min (below.levels + 1) u64.MAX }
+{
+    Size {
+        nodes: below.nodes.saturating_add(1),
+        levels: below.levels.saturating_add(1),
+    }
+}
+
+// What has two.
+fn over_both(left: Size, right: Size) -> Size
+    ensures nodes { result.nodes ≡ min (left.nodes + right.nodes + 1) u64.MAX }
+    ensures levels { result.levels ≡ min (max left.levels right.levels + 1) u64.MAX }
+{
+    Size {
+        nodes: left.nodes.saturating_add(right.nodes).saturating_add(1),
+        levels: left.levels.max(right.levels).saturating_add(1),
+    }
+}
+
+// What a name stands for, by what is kept of it.
+fn kept(sizes: &NameMap<Size>, name: &Name) -> Size
+    ensures nodes { result.nodes ≡ nodes_kept (value_at sizes.now name.now) }
+    ensures levels { result.levels ≡ levels_kept (value_at sizes.now name.now) }
+{
+    match sizes.get(name) {
+        Some(size) => *size,
+        None => alone(),
+    }
+}
+
+// The places and the levels of the process, where the names have as many as is kept of them. It recurses as deep as the process.
+fn measured(sizes: &NameMap<Size>, source: &Source) -> Size
+    ensures nodes { result.nodes ≡ min (nodes_in sizes.now (written source.now)) u64.MAX }
+    ensures levels { result.levels ≡ min (levels_in sizes.now (written source.now)) u64.MAX }
 {
     match source {
-        Source::Nil(_) => 1,
-        Source::Call(_, f, _) => sizes.get(f).map_or(1, |s| s.levels),
+        Source::Nil(_) => alone(),
+        Source::Call(_, f, _) => kept(sizes, f),
         Source::Par(_, p, q) | Source::If(_, _, _, p, q) | Source::Lookup(_, _, _, p, q) => {
-            levels(sizes, p).max(levels(sizes, q)).saturating_add(1)
+            let left = measured(sizes, p);
+            over_both(left, measured(sizes, q))
         }
-        Source::Rep(_, p) | Source::Act(_, _, p) => levels(sizes, p).saturating_add(1),
+        Source::Rep(_, p) | Source::Act(_, _, p) => over(measured(sizes, p)),
     }
 }
 
@@ -57,10 +87,7 @@ fn keep(alloc: Global, sizes: &mut NameMap<Size>, d: &Definition) -> Result<(), 
     ensures nodes { OnOk result ((f : List ℕ) → nodes_kept (value_at sizes.new f) ≡ with_nodes (λ g. nodes_kept (value_at sizes.old g)) (definition_of d.now) f) }
     ensures levels { OnOk result ((f : List ℕ) → levels_kept (value_at sizes.new f) ≡ with_levels (λ g. levels_kept (value_at sizes.old g)) (definition_of d.now) f) }
 {
-    let size = Size {
-        nodes: nodes(sizes, &d.body),
-        levels: levels(sizes, &d.body),
-    };
+    let size = measured(sizes, &d.body);
     let name = d.name.copy(alloc)?;
     sizes.insert(name, size)?;
     Ok(())
@@ -102,7 +129,6 @@ pub fn expanded_size(alloc: Global, defs: &DefinitionList, main: &Source) -> Res
         ≡ min (level_count (expansion (definitions defs.now) identifiers (written main.now)).process) u64.MAX) }
 {
     let sizes = sizes_of(alloc, defs)?;
-    let nodes = nodes(&sizes, main);
-    let levels = levels(&sizes, main);
-    Ok(Size { nodes, levels })
+    let whole = measured(&sizes, main);
+    Ok(whole)
 }

@@ -5,6 +5,8 @@ mod notation;
 mod page;
 mod tell;
 
-pub use notation::{between, enclosed, file_bytes, number, part, parted, split, written};
+pub use notation::{
+    between, enclose, enclose_file, enclosed, file_bytes, number, part, parted, split, written,
+};
 pub use page::Page;
 pub use tell::{Tables, report};

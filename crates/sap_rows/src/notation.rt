@@ -4,10 +4,7 @@ use std::alloc::Global;
 
 /// The piece of a text with this number, from 0, where the mark stands between them, without blanks around it; empty where there are fewer.
 pub fn split(text: &str, mark: char, k: usize) -> &str {
-    match text.split(mark).nth(k) {
-        Some(piece) => piece.trim(),
-        None => "",
-    }
+    text.split(mark).nth(k).unwrap_or("").trim()
 }
 
 /// The part of a row with this number, from 0, without blanks around it; empty where there are fewer parts.
@@ -58,31 +55,58 @@ fn digit(c: u8) -> u8 {
     }
 }
 
-// What stands between braces: a number of times and a text, with the number of each where `#` stands and the next one where `?`
-// does, or two hexadecimal digits.
-fn push_braced(page: &mut Page, inside: &str) {
-    match (inside.split_once(':'), inside.as_bytes()) {
-        (Some((times, text)), _) => {
-            for k in 0..times.parse::<u32>().unwrap_or(0) {
-                push_text(page, text, Some(k as u64));
-            }
-        }
-        (None, [high, low]) => page.byte(digit(*high).wrapping_mul(16).wrapping_add(digit(*low))),
-        _ => {}
+// The byte of two hexadecimal digits.
+fn push_digits(page: &mut Page, digits: &[u8]) {
+    if let [high, low] = digits {
+        page.byte(digit(*high).wrapping_mul(16).wrapping_add(digit(*low)));
     }
 }
 
-/// The bytes that a part stands for, with others before and behind: `^` is a line feed, `{0a}` the byte of two hexadecimal digits,
-/// `{3:a#}` is `a0a1a2`, `{3:a?}` is `a1a2a3`, and `{}` is nothing.
-pub fn enclosed(alloc: Global, before: &str, text: &str, behind: &str) -> Page {
-    let mut page = Page::new(alloc);
-    page.word(before);
+// The text so many times, with the number of each where `#` stands and the next one where `?` does.
+fn push_times(page: &mut Page, times: u32, text: &str) {
+    for k in 0..times {
+        push_text(page, text, Some(k as u64));
+    }
+}
+
+// What stands between braces: a number of times and a text, or two hexadecimal digits.
+fn push_braced(page: &mut Page, inside: &str) {
+    match inside.split_once(':') {
+        Some((times, text)) => push_times(page, times.parse::<u32>().unwrap_or(0), text),
+        None => push_digits(page, inside.as_bytes()),
+    }
+}
+
+// Puts last the bytes that a part stands for.
+fn push_written(page: &mut Page, text: &str) {
     for piece in text.split('{') {
         let (inside, rest) = piece.split_once('}').unwrap_or(("", piece));
-        push_braced(&mut page, inside);
-        push_text(&mut page, rest, None);
+        push_braced(page, inside);
+        push_text(page, rest, None);
     }
+}
+
+/// The page has nothing but the bytes that a part stands for, with others before and behind: `^` is a line feed, `{0a}` the byte of
+/// two hexadecimal digits, `{3:a#}` is `a0a1a2`, `{3:a?}` is `a1a2a3`, and `{}` is nothing.
+pub fn enclose(page: &mut Page, before: &str, text: &str, behind: &str) {
+    page.clear();
+    page.word(before);
+    push_written(page, text);
     page.word(behind);
+}
+
+/// The page has nothing but the bytes of a file: what the part says between a header and `end`, or what stands behind `=`.
+pub fn enclose_file(page: &mut Page, text: &str) {
+    match text.strip_prefix('=') {
+        Some(whole) => enclose(page, "", whole, ""),
+        None => enclose(page, "theory T begin ", text, " end"),
+    }
+}
+
+/// The bytes that a part stands for, with others before and behind.
+pub fn enclosed(alloc: Global, before: &str, text: &str, behind: &str) -> Page {
+    let mut page = Page::new(alloc);
+    enclose(&mut page, before, text, behind);
     page
 }
 
@@ -91,10 +115,9 @@ pub fn written(alloc: Global, text: &str) -> Page {
     enclosed(alloc, "", text, "")
 }
 
-/// The bytes of a file: what the part says between a header and `end`, or what stands behind `=`.
+/// The bytes of a file.
 pub fn file_bytes(alloc: Global, text: &str) -> Page {
-    match text.strip_prefix('=') {
-        Some(whole) => written(alloc, whole),
-        None => enclosed(alloc, "theory T begin ", text, " end"),
-    }
+    let mut page = Page::new(alloc);
+    enclose_file(&mut page, text);
+    page
 }

@@ -3,7 +3,7 @@ use crate::notation::between;
 use sap_terms::{Items, Mem, Name};
 use sap_text::Text;
 use std::alloc::Global;
-use std::mem;
+use std::{mem, str};
 
 /// What is found for a row so far. Where a part isn't written as the table's rows are, or memory is wanting, the page isn't
 /// whole, and stays so: who writes on it needn't ask at each word.
@@ -32,6 +32,17 @@ impl Page {
     /// What was put on the page.
     pub fn as_bytes(&self) -> &[u8] {
         self.text.as_bytes()
+    }
+
+    /// What was put on the page, as a text; empty where it is none.
+    pub fn as_str(&self) -> &str {
+        str::from_utf8(self.text.as_bytes()).unwrap_or("")
+    }
+
+    /// The page is empty and whole, as a new one.
+    pub fn clear(&mut self) {
+        self.is_whole = true;
+        drop(mem::replace(&mut self.text, Text::new(self.alloc)));
     }
 
     /// Puts the bytes last.
@@ -88,6 +99,17 @@ impl Page {
     pub fn note<T: Drop, E: Drop>(&mut self, done: Result<T, E>) {
         if done.is_err() {
             self.fail();
+        }
+    }
+
+    /// What was made; without it the page isn't whole.
+    pub fn got<T: Drop, E: Drop>(&mut self, made: Result<T, E>) -> Option<T> {
+        match made {
+            Ok(value) => Some(value),
+            Err(_) => {
+                self.fail();
+                None
+            }
         }
     }
 

@@ -1,5 +1,5 @@
 //! What is told of the rows of a table.
-use crate::notation::written;
+use crate::notation::enclose;
 use crate::page::Page;
 
 /// What finds the answers of the rows of some tables, and keeps what rows have made, where they go on from one another.
@@ -21,12 +21,19 @@ fn show_difference(out: &mut Page, table: &str, row: &str, found: &[u8]) {
     out.word("\n");
 }
 
-// Tells the row if it isn't as its last part says: how many such rows this is.
-fn tell_row<T: Tables>(out: &mut Page, tables: &mut T, table: &str, row: &str) -> u64 {
-    let (_, want) = row.rsplit_once('%').unwrap_or(("", ""));
-    let want = written(out.alloc, want.trim());
-    let mut found = Page::new(out.alloc);
-    tables.show_found(&mut found, table, row);
+// Tells the row if it isn't as its last part says: how many such rows this is. The two pages are for what is found and what is said.
+fn tell_row<T: Tables>(
+    out: &mut Page,
+    found: &mut Page,
+    want: &mut Page,
+    tables: &mut T,
+    table: &str,
+    row: &str,
+) -> u64 {
+    let (_, text) = row.rsplit_once('%').unwrap_or(("", ""));
+    enclose(want, "", text.trim(), "");
+    found.clear();
+    tables.show_found(found, table, row);
     if !found.is_whole {
         found.word(" (no answer)");
     }
@@ -42,10 +49,13 @@ fn tell_row<T: Tables>(out: &mut Page, tables: &mut T, table: &str, row: &str) -
 pub fn report<T: Tables>(out: &mut Page, tables: &mut T, table: &str, lines: &str) {
     let mut rows: u64 = 0;
     let mut differ: u64 = 0;
+    let mut found = Page::new(out.alloc);
+    let mut want = Page::new(out.alloc);
     for line in lines.split('\n') {
         if !line.is_empty() && !line.starts_with("-- ") {
             rows = rows.saturating_add(1);
-            differ = differ.saturating_add(tell_row(out, tables, table, line));
+            let told = tell_row(out, &mut found, &mut want, tables, table, line);
+            differ = differ.saturating_add(told);
         }
     }
     out.word(table);

@@ -2,7 +2,7 @@
 //! How a row is written stands in docs/TESTS.md.
 #![tactic(auto)]
 
-use sap_calls::{Program, put_file, shelf_with, show_of_calls};
+use sap_calls::{Program, Stage, put_file, show_of_calls, stage_of};
 use sap_layers::{Desk, empty_desk, show_of_layers};
 use sap_outside::{MemShelf, MemSink};
 use sap_rows::{Page, Tables, report};
@@ -27,16 +27,16 @@ impl Program for Sapic {
     }
 }
 
-// What the rows of a table have made so far, and files by name.
+// What the rows of a table have made so far, and what rows of calls write on.
 #[derive(Drop)]
 struct All {
     desk: Box<Desk>,
-    shelf: MemShelf,
+    stage: Stage,
 }
 
 impl Tables for All {
     fn show_found(&mut self, page: &mut Page, table: &str, row: &str) {
-        if !show_of_calls::<Sapic>(page, &mut self.shelf, table, row) {
+        if !show_of_calls::<Sapic>(page, &mut self.stage, table, row) {
             show_of_layers(page, &mut self.desk, table, row);
         }
     }
@@ -58,16 +58,16 @@ fn tell_table(rt: &HostRuntime, out: &mut Page, table: &str) -> io::Result<()> {
 
 // Tells each row of the table that differs, and how many do.
 fn tell_rows(out: &mut Page, table: &str, rows: &str, files: BTreeMap<String, Vec<u8>>) {
-    let shelf = shelf_with(out, files, 0, 4096);
+    let stage = stage_of(out, files);
     match empty_desk(out) {
         Some(desk) => {
-            let mut all = All { desk, shelf };
+            let mut all = All { desk, stage };
             report(out, &mut all, table, rows);
             drop(all);
         }
         None => {
             out.fail();
-            drop(shelf);
+            drop(stage);
         }
     }
 }

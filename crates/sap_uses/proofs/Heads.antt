@@ -1,12 +1,14 @@
 -- What is met at each form.
-use Rattle.std.proofs.Common.{◌≡◌, ◌<◌, ℕ, ◌+◌, false, List, [], ◌∷◌, Some, length, refl, sym, ap, ◌∙◌, subst, arith}
+use Rattle.std.proofs.Common.{◌≡◌, ◌<◌, ◌≤◌, ℕ, ◌+◌, false, List, [], ◌∷◌, Some, length, refl, sym, ap, ◌∙◌, subst, arith}
 use Rattle.std.specs.Prelude.{if◌then◌else◌}
 use Rattle.sap_process.specs.Action.{Action}
 use Rattle.sap_terms.specs.Tree.{Tree}
 use Rattle.sap_terms.specs.declared.var.Var.{Var}
 use Rattle.sap_terms.specs.Variables.{is_known}
-use Rattle.sap_macro.specs.Indexed.{defined}
-use Rattle.sap_uses.proofs.Resolving.{unknown}
+use Rattle.sap_macro.specs.Ends.{ComesTo, IsEnd, here, through}
+use Rattle.sap_macro.specs.Indexed.{IsDefined, defined}
+use Rattle.sap_macro.specs.Order.{AreInOrder}
+use Rattle.sap_uses.proofs.Resolving.{resolved, unknown}
 use Rattle.sap_macro.specs.Written.{Written, nil, call, parallel, replicated, act, test, lookup, Definition}
 use Rattle.sap_macro.specs.Sources.{written}
 use Rattle.sap_macro.specs.declared.source.Source.{Source}
@@ -86,6 +88,32 @@ met_use ds d f ts r name some =
       found = λ z. ap (λ n. heavy_of ds z n ts) (sym name) ∙ r.found z ts ∙ some_params (heavy_of ds) d d.params z ts some;
       further = subst (λ n. steps (cost_of ds) d.body < cost_of ds n + 1) name (omega (arith, same));
     }
+
+-- ---- behind a chain of names without parameters
+
+-- what is found there is found at its end, in no more steps
+pub record IsFoundAt (ds : List Definition) (w p : Written) : Type 0 where
+  pub found : (z : Sizes) → heavy ds z w ≡ heavy ds z p
+  pub further : steps_in ds p ≤ steps_in ds w
+
+comes_found : (ds : List Definition) (w p : Written) → AreInOrder [] ds → ComesTo ds w p → IsFoundAt ds w p
+comes_found ds _ _ order (here {w = w}) = record { found = λ z. refl; further = omega arith }
+comes_found ds _ p order (through {f = f} {d = d} ts is none more) =
+    let behind = comes_found ds d.body p order more in
+    let first = met_plain ds d f ts (resolved ds f d order is) is.name_is (ap length none) in
+    let most = behind.further in
+    let less = first.further in
+    record { found = λ z. first.found z ∙ behind.found z; further = omega (arith, most, less) }
+
+-- at a use of a definition without parameters
+pub met_end : (ds : List Definition) (d : Definition) (f : List ℕ) (ts : List Tree) (p : Written) → AreInOrder [] ds → IsDefined ds f d → IsEnd ds d.body p → length d.params ≡ 0
+    → IsOne ds (call f ts) p
+met_end ds d f ts p order is end none =
+    let behind = comes_found ds d.body p order end.comes in
+    let first = met_plain ds d f ts (resolved ds f d order is) is.name_is none in
+    let most = behind.further in
+    let less = first.further in
+    record { found = λ z. first.found z ∙ behind.found z; further = omega (arith, most, less) }
 
 -- ---- how far a walk goes from what is met, and from where it comes
 

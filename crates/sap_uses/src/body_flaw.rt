@@ -9,9 +9,10 @@ ghost use Rattle.sap_macro.specs.Seen.{seen};
 ghost use Rattle.sap_macro.specs.Sources.{definition_of, definitions, written};
 ghost use Rattle.sap_macro.specs.UpToNames.{named};
 ghost use Rattle.sap_uses.specs.ScopeFlaws.{params_in_scope};
+ghost use Rattle.sap_macro.specs.Ends.{AreEnds};
 ghost use Rattle.sap_macro.specs.Indexed.{AreIndexed};
 
-use sap_macro::{Definition, DefinitionList, Index, seen};
+use sap_macro::{Definition, DefinitionList, Ends, Index, seen_by};
 use sap_process::{Flaw, first_scope_flaw};
 use sap_terms::{Copied, Mem, NameList, Path, Sort, Var, Vars};
 use std::alloc::Global;
@@ -38,17 +39,19 @@ pub(crate) fn body_flaw(
     alloc: Global,
     defs: &DefinitionList,
     index: &Index,
+    ends: &Ends,
     d: &Definition,
 ) -> Result<Option<(Flaw, Path)>, Mem>
     requires order { AreInOrder [] (definitions defs.now) }
     requires index { AreIndexed (definitions defs.now) index.now }
+    requires ends { AreEnds (definitions defs.now) ends.now }
     ensures found { (g : Sig) → IfOk result (λ o. IfSome o (λ f. IsFirstScopeFlaw g (params_in_scope (definition_of d.now))
         (seen (plain (definitions defs.now) (definition_of d.now).body)) f.0 f.1)) }
     ensures none { (g : Sig) → IfOk result (λ o. IfNone o (HasNoScopeFlaw g (params_in_scope (definition_of d.now))
         (seen (plain (definitions defs.now) (definition_of d.now).body)))) }
 {
     let scope = params_of(alloc, &d.params)?;
-    let body = seen(alloc, defs, index, &d.body)?;
+    let body = seen_by(alloc, defs, index, ends, &d.body)?;
     let found = first_scope_flaw(alloc, &scope, &body)?;
     Ok(found)
 }

@@ -8,13 +8,15 @@ ghost use Rattle.sap_macro.specs.Order.{AreInOrder};
 ghost use Rattle.sap_macro.specs.Sources.{definition_of, definitions, written};
 ghost use Rattle.sap_macro.specs.Written.{Written};
 ghost use Rattle.sap_uses.specs.ScopeFlaws.{IsFirstFlawedBehind};
+ghost use Rattle.sap_macro.specs.Ends.{AreEnds};
 ghost use Rattle.sap_macro.specs.Indexed.{AreIndexed};
 ghost use Rattle.sap_uses.specs.code.Marks.{AreReached, IsFlawedThere};
 
 use crate::body_flaw::body_flaw;
 use crate::reached::reached;
 use sap_macro::{
-    Definition, DefinitionList, Index, Source, index_of, plain_names_stand_for_bodies,
+    Definition, DefinitionList, Ends, Index, Source, ends_of, index_of,
+    plain_names_stand_for_bodies,
 };
 use sap_process::Flaw;
 use sap_terms::{Copied, Mem, Name, NameSet, Path};
@@ -32,11 +34,13 @@ fn flaw_of(
     alloc: Global,
     defs: &DefinitionList,
     index: &Index,
+    ends: &Ends,
     names: &NameSet,
     d: &Definition,
 ) -> Result<Option<(Flaw, Path)>, Mem>
     requires order { AreInOrder [] (definitions defs.now) }
     requires index { AreIndexed (definitions defs.now) index.now }
+    requires ends { AreEnds (definitions defs.now) ends.now }
     ensures found { (g : Sig) (p : Written) → AreReached (definitions defs.now) p names.now
         → IfOk result (λ o. IfSome o (λ f. IsFlawedThere g (definitions defs.now) p (definition_of d.now) f.0 f.1)) }
     ensures none { (g : Sig) (p : Written) → AreReached (definitions defs.now) p names.now
@@ -45,7 +49,7 @@ fn flaw_of(
     if !is_wanted(names, d) {
         return Ok(None);
     }
-    body_flaw(alloc, defs, index, d)
+    body_flaw(alloc, defs, index, ends, d)
 }
 
 /// The name of the first definition with parameters that the process leads to and whose body has one of the flaws `Unbound`, `Rebound`
@@ -64,10 +68,11 @@ pub fn first_flawed(
 {
     plain_names_stand_for_bodies();
     let index = index_of(alloc, defs)?;
+    let ends = ends_of(alloc, defs, &index)?;
     let names = reached(alloc, defs, main)?;
     for k in 0..defs.len() {
         let d = defs.at(k);
-        if let Some((which, path)) = flaw_of(alloc, defs, &index, &names, d)? {
+        if let Some((which, path)) = flaw_of(alloc, defs, &index, &ends, &names, d)? {
             let name = d.name.copy(alloc)?;
             return Ok(Some((name, which, path)));
         }

@@ -4,6 +4,7 @@ ghost use Rattle.std.specs.Option.{option_copied};
 ghost use Rattle.sap_macro.specs.Order.{AreInOrder};
 ghost use Rattle.sap_macro.specs.Sources.{definition_of, definitions, written};
 ghost use Rattle.sap_uses.specs.UseCauses.{first_large};
+ghost use Rattle.sap_macro.specs.Ends.{AreEnds};
 ghost use Rattle.sap_macro.specs.Indexed.{AreIndexed};
 ghost use Rattle.sap_uses.specs.code.Met.{IsEntered, IsReached};
 ghost use Rattle.sap_uses.specs.Sizes.{size_in};
@@ -12,7 +13,7 @@ ghost use Rattle.sap_uses.specs.code.Walks.{heavy};
 use crate::counts::copied;
 use crate::met::{Met, met_at};
 use crate::sizes::{Sizes, by_params, has_large};
-use sap_macro::{Definition, DefinitionList, Index, Source, index_of};
+use sap_macro::{Definition, DefinitionList, Ends, Index, Source, ends_of, index_of};
 use sap_terms::{Mem, Name, NameMap, TermList};
 use std::alloc::Global;
 
@@ -46,17 +47,19 @@ fn behind_uses<'a>(
     alloc: Global,
     defs: &'a DefinitionList,
     index: &Index,
+    ends: &Ends,
     sizes: &Sizes,
     d: &'a Definition,
     args: &TermList,
 ) -> Result<Reached<'a>, Mem>
     requires order { AreInOrder [] (definitions defs.now) }
     requires index { AreIndexed (definitions defs.now) index.now }
+    requires ends { AreEnds (definitions defs.now) ends.now }
     ensures { IfOk result (λ r. IsReached (definitions defs.now) (size_in sizes.now) (definition_of d.now) args.now r) }
 {
     let mut r = entered(alloc, sizes, d, args)?;
     while let Reached::Body(inner, at) = &r {
-        match met_at(defs, index, at) {
+        match met_at(defs, index, ends, at) {
             Met::Use(e, further) => r = entered(alloc, inner, e, further)?,
             _ => return Ok(r),
         }
@@ -69,22 +72,24 @@ fn large_in<'a>(
     alloc: Global,
     defs: &'a DefinitionList,
     index: &Index,
+    ends: &Ends,
     sizes: &Sizes,
     source: &'a Source,
 ) -> Result<Option<&'a Name>, Mem>
     requires order { AreInOrder [] (definitions defs.now) }
     requires index { AreIndexed (definitions defs.now) index.now }
+    requires ends { AreEnds (definitions defs.now) ends.now }
     ensures { IfOk result (λ o. option_copied o ≡ heavy (definitions defs.now) (size_in sizes.now) (written source.now)) }
 {
-    match met_at(defs, index, source) {
+    match met_at(defs, index, ends, source) {
         Met::Nothing => Ok(None),
-        Met::Plain(p) | Met::One(p) => large_in(alloc, defs, index, sizes, p),
-        Met::Use(d, args) => match behind_uses(alloc, defs, index, sizes, d, args)? {
+        Met::Plain(p) | Met::One(p) => large_in(alloc, defs, index, ends, sizes, p),
+        Met::Use(d, args) => match behind_uses(alloc, defs, index, ends, sizes, d, args)? {
             Reached::Large(name) => Ok(Some(name)),
-            Reached::Body(inner, at) => large_in(alloc, defs, index, &inner, at),
+            Reached::Body(inner, at) => large_in(alloc, defs, index, ends, &inner, at),
         },
-        Met::Two(p, q) => match large_in(alloc, defs, index, sizes, p)? {
-            None => large_in(alloc, defs, index, sizes, q),
+        Met::Two(p, q) => match large_in(alloc, defs, index, ends, sizes, p)? {
+            None => large_in(alloc, defs, index, ends, sizes, q),
             found => Ok(found),
         },
     }
@@ -99,8 +104,9 @@ pub fn first_large(alloc: Global, defs: &DefinitionList, main: &Source) -> Resul
     ensures { IfOk result (λ o. o ≡ first_large (definitions defs.now) (written main.now)) }
 {
     let index = index_of(alloc, defs)?;
+    let ends = ends_of(alloc, defs, &index)?;
     let sizes = NameMap::new(alloc);
-    let found = large_in(alloc, defs, &index, &sizes, main)?;
+    let found = large_in(alloc, defs, &index, &ends, &sizes, main)?;
     let name = copied(alloc, found)?;
     Ok(name)
 }

@@ -6,10 +6,10 @@ use Rattle.sap_macro.proofs.sizes.expanded_size.Goals as goal
 
 pub returns-clause-nodes : goal.returns-clause-nodes
 returns-clause-nodes c =
-    nodes_told (definitions c.args.defs.now) (written c.args.main.now) (λ f. nodes_kept (value_at c.in_ok-sizes.sizes f)) c.nodes-nodes.result
-    c.nodes-nodes.ensures c.in_ok-sizes.ensures.nodes c.requires
+    nodes_told (definitions c.args.defs.now) (written c.args.main.now) (λ f. nodes_kept (value_at c.in_ok-sizes.sizes f)) c.measured-whole.result.nodes
+    c.measured-whole.ensures.nodes c.in_ok-sizes.ensures.nodes c.requires
 
 pub returns-clause-levels : goal.returns-clause-levels
 returns-clause-levels c =
-    levels_told (definitions c.args.defs.now) (written c.args.main.now) (λ f. levels_kept (value_at c.in_ok-sizes.sizes f)) c.levels-levels.result
-    c.levels-levels.ensures c.in_ok-sizes.ensures.levels c.requires
+    levels_told (definitions c.args.defs.now) (written c.args.main.now) (λ f. levels_kept (value_at c.in_ok-sizes.sizes f)) c.measured-whole.result.levels
+    c.measured-whole.ensures.levels c.in_ok-sizes.ensures.levels c.requires

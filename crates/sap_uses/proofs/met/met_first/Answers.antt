@@ -1,25 +1,9 @@
-use Rattle.std.proofs.Common.{arith}
-use Rattle.sap_macro.specs.Sources.{definition_of, definitions, written}
-use Rattle.sap_uses.proofs.Heads.{met_act, met_lookup, met_parallel, met_plain, met_replicated, met_test, met_use}
-use Rattle.sap_uses.proofs.Resolving.{resolved}
+use Rattle.sap_macro.specs.Sources.{definitions, written}
+use Rattle.sap_uses.proofs.Heads.{met_act, met_lookup, met_parallel, met_replicated, met_test}
 use Rattle.sap_uses.proofs.met.met_first.Goals as goal
 
-pub returns-in-Some : goal.returns-in-Some
-returns-in-Some c =
-    let ds = definitions c.args.defs.now in
-    let d = definition_of c.in-Some.d.now in
-    rw (c.in-Call.is, c.deref.ensures)
-    (met_plain ds d c.in-Call.name c.in-Call.args (resolved ds c.in-Call.name d c.requires.order c.in-Some.ensures) c.in-Some.ensures.name_is (omega arith))
-
-pub returns-in-Some-2 : goal.returns-in-Some-2
-returns-in-Some-2 c =
-    let ds = definitions c.args.defs.now in
-    let d = definition_of c.in-Some.d.now in
-    rw c.in-Call.is
-    (met_use ds d c.in-Call.name c.in-Call.args (resolved ds c.in-Call.name d c.requires.order c.in-Some.ensures) c.in-Some.ensures.name_is (λ h. absurd (omega (arith, h))))
-
 pub returns-in-Rep : goal.returns-in-Rep
-returns-in-Rep c = rw (c.in-Rep.is, c.deref-in-Rep.ensures) (met_replicated (definitions c.args.defs.now) (written c.in-Rep.p.value))
+returns-in-Rep c = rw (c.in-Rep.is, c.deref.ensures) (met_replicated (definitions c.args.defs.now) (written c.in-Rep.p.value))
 
 pub returns-in-Act : goal.returns-in-Act
 returns-in-Act c = rw (c.in-Act.is, c.deref-in-Act.ensures) (met_act (definitions c.args.defs.now) _ (written c.in-Act.p.value))
