@@ -1,7 +1,7 @@
 -- Notes tried by hand.
 use Rattle.std.proofs.Common.{◌≡◌, ◌≤◌, ◌<◌, ◌+◌, ℕ, zero, suc, true, false, inl, inr, List, [], ◌∷◌, ◌++◌, Some, None, refl, sym, ◌∙◌, subst, ⊎_elim, arith}
 use Rattle.std.proofs.lemmas.Bool.{false≢true, true≢false}
-use Rattle.std.specs.Prelude.{Contains, codes}
+use Rattle.std.specs.Prelude.{Contains, codes, drop, ◌⊎◌}
 use Rattle.sap_terms.proofs.PlainLaws.Items.{cons_cases, none_contained}
 use Rattle.sap_terms.specs.Equations.{IsInstance, first, second, symmetric, asymmetric, signing, revealing, revealed}
 use Rattle.sap_terms.specs.Signature.{Sig, added, arity_of, has_builtin, holds, no_builtins, with_builtin}
@@ -11,12 +11,19 @@ use Rattle.sap_terms.specs.declared.signature.Builtin.TheVariants.{Asymmetric, H
 use Rattle.sap_stretches.specs.StretchExamples.{stretch}
 use Rattle.sap_stretches.specs.PositionExamples.{at}
 use Rattle.sap_stretches.specs.Positions.{IsFeed, IsPlaceText, LineBegins, LineEnds}
+use Rattle.sap_terms.specs.declared.fact.Fact.{Fact}
+use Rattle.sap_grammar.specs.FactGrammar.{IsFact, fact, fact_linear, fact_persistent}
+use Rattle.sap_grammar.specs.TermGrammar.{args_none}
+use Rattle.sap_grammar.specs.Words.{Word, starts, words_of}
+use Rattle.sap_notes.specs.FactExamples.{facts_text, facts_tokens}
+use Rattle.sap_notes.specs.FactWords.{IsFactAt}
+use Rattle.sap_notes.specs.Facts.{by_arity}
 use Rattle.sap_notes.specs.NoteExamples.{a_place, a_told, declared, declared_tokens, note, sdec_place, sdec_told, two_lines, with_symbol}
 use Rattle.sap_notes.specs.NotedWords.{IsDeclaredAt, IsDefinedAt, IsFirstDeclaredAt}
 use Rattle.sap_notes.specs.Notes.{AreAscending, IsBefore}
 use Rattle.sap_notes.specs.NotesTold.{AreNotesTold, is_told, more_told, none_told}
 use Rattle.sap_notes.specs.OtherSymbols.{IsAnother, speaks_of}
-use Rattle.sap_notes.specs.declared.note.Kind.TheVariants.{OtherSymbol, UnusedDefinition, UnusedSymbol}
+use Rattle.sap_notes.specs.declared.note.Kind.TheVariants.{CapturedName, ComparedName, OtherSymbol, UnusedDefinition, UnusedSymbol}
 use Rattle.sap_notes.specs.declared.note.Note.{Note}
 
 -- ---- words
@@ -198,6 +205,36 @@ not_last_kind b = ⊎_elim (λ lt. omega (arith, lt)) (λ s. let lt = s.1 in ome
 pub not_later_word : IsBefore (note OtherSymbol 9 10) (note UnusedDefinition 3 7) → ⊥
 not_later_word b = ⊎_elim (λ lt. omega (arith, lt)) (λ s. let e = s.0 in omega (arith, e)) b
 
+pub two_kinds : AreAscending (note CapturedName 3 4 ∷ note ComparedName 3 4 ∷ [])
+two_kinds =
+    let a = note CapturedName 3 4 in
+    let b = note ComparedName 3 4 in
+    (before_all a b [] (inr (refl, omega arith)) (before_none a), (before_none b, tt))
+
+pub not_compared_first : IsBefore (note ComparedName 3 4) (note CapturedName 3 4) → ⊥
+not_compared_first b = ⊎_elim (λ lt. omega (arith, lt)) (λ s. let lt = s.1 in omega (arith, lt)) b
+
+-- ---- facts
+
+-- a fact begins with its name and a parenthesis, or with `!`
+begins : {g : Sig} {f : Fact} {ws b : List Word} → IsFact g f ws b → (starts (codes "(") (drop 1 ws) ≡ true) ⊎ (starts (codes "!") ws ≡ true)
+begins (fact_linear up r) = inl refl
+begins (fact_persistent up r) = inr refl
+
+pub fact_there : (g : Sig) → IsFactAt g facts_text facts_tokens (by_arity (codes "E") 0) 4
+fact_there g = record {
+  fact = fact false (codes "E") [];
+  key = refl;
+  behind = words_of facts_text (drop 7 facts_tokens);
+  spelled = record { spelled = fact_linear refl args_none; small = λ k d lt. absurd (omega (arith, lt)); sign = λ e. absurd (false≢true e) };
+}
+
+pub no_fact_of_name : (g : Sig) → IsFactAt g facts_text facts_tokens (by_arity (codes "A") 0) 1 → ⊥
+no_fact_of_name g a = ⊎_elim (λ e. false≢true e) (λ e. false≢true e) (begins a.spelled.spelled)
+
+pub no_fact_before : (g : Sig) → IsFactAt g facts_text facts_tokens (by_arity (codes "E") 0) 3 → ⊥
+no_fact_before g a = ⊎_elim (λ e. false≢true e) (λ e. false≢true e) (begins a.spelled.spelled)
+
 -- ---- what is told
 
 first_begins : LineBegins two_lines 0 0
@@ -255,13 +292,13 @@ a_stands = record {
   text = refl;
 }
 
-pub two_told : AreNotesTold two_lines (note OtherSymbol 0 4 ∷ note UnusedDefinition 5 6 ∷ []) (sdec_told ++ (a_told ++ []))
+pub two_told : AreNotesTold two_lines [] (note OtherSymbol 0 4 ∷ note UnusedDefinition 5 6 ∷ []) (sdec_told ++ (a_told ++ []))
 two_told = more_told {t = sdec_told} {u = a_told ++ []} (is_told {t = sdec_place} sdec_stands) (more_told {t = a_told} {u = []} (is_told {t = a_place} a_stands) none_told)
 
-nothing : (z t : List ℕ) → AreNotesTold z [] t → t ≡ []
+nothing : (z t : List ℕ) → AreNotesTold z [] [] t → t ≡ []
 nothing z _ none_told = refl
 
-pub nothing_told : AreNotesTold two_lines [] a_told → ⊥
+pub nothing_told : AreNotesTold two_lines [] [] a_told → ⊥
 nothing_told told = some (nothing two_lines a_told told) where
   some : a_told ≡ [] → ⊥
   some e = absurd (cc)

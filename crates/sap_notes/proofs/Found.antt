@@ -17,7 +17,7 @@ use Rattle.sap_where.specs.FileDeclarations.{in_item, is_next}
 use Rattle.sap_uses.specs.ScopeFlaws.{LeadsTo}
 use Rattle.sap_notes.specs.Contents.{Content, HasContent, content_symbols}
 use Rattle.sap_notes.specs.NotedWords.{IsDeclaredAt, IsDefinedAt, IsFirstDeclaredAt, is_behind_let}
-use Rattle.sap_notes.specs.Notes.{AreAscending, AreNotes, IsBefore, IsNote, note_at, other_symbol, rank, unused_definition, unused_symbol}
+use Rattle.sap_notes.specs.Notes.{AreAscending, IsBefore, IsNote, captured_name, compared_name, note_at, other_symbol, rank, unshown_fact, unspoken_event, unused_definition, unused_symbol}
 use Rattle.sap_notes.specs.OtherSymbols.{IsAnother}
 use Rattle.sap_notes.specs.code.Led.{AreLedTo, IsAmong}
 use Rattle.sap_notes.specs.code.Others.{is_another}
@@ -32,11 +32,11 @@ use Rattle.sap_notes.proofs.Spans.{ascends, named_within}
 
 -- ---- names at words
 
-if_some : (b : Bool) (o : Option (List ℕ)) (x : List ℕ) → name_if b o ≡ Some x → (b ≡ true) × (o ≡ Some x)
+pub if_some : (b : Bool) (o : Option (List ℕ)) (x : List ℕ) → name_if b o ≡ Some x → (b ≡ true) × (o ≡ Some x)
 if_some true o x e = (refl, e)
 if_some false o x e = absurd (cc)
 
-some_if : (b : Bool) (o : Option (List ℕ)) (x : List ℕ) → b ≡ true → o ≡ Some x → name_if b o ≡ Some x
+pub some_if : (b : Bool) (o : Option (List ℕ)) (x : List ℕ) → b ≡ true → o ≡ Some x → name_if b o ≡ Some x
 some_if true o x e f = f
 some_if false o x e f = absurd (false≢true e)
 
@@ -59,12 +59,12 @@ module _ (z : List ℕ) (ts : List Token) (k : ℕ) (x : List ℕ) where
       some_if (is_next z ts k) (name_if (in_item z ts (codes "functions") k) (name_at (words_of z (drop k ts)))) x d.next
       (some_if (in_item z ts (codes "functions") k) (name_at (words_of z (drop k ts))) x d.item (named_is (name_at (words_of z (drop k ts))) x d.is))
 
-  defined_is : defined_name z ts k ≡ Some x → IsDefinedAt z ts x k
+  pub defined_is : defined_name z ts k ≡ Some x → IsDefinedAt z ts x k
   defined_is e =
       let parts = if_some (is_behind_let z ts k) (name_at (words_of z (drop k ts))) x e in
       record { is = is_named (name_at (words_of z (drop k ts))) x parts.1; behind = parts.0 }
 
-  is_defined : IsDefinedAt z ts x k → defined_name z ts k ≡ Some x
+  pub is_defined : IsDefinedAt z ts x k → defined_name z ts k ≡ Some x
   is_defined d = some_if (is_behind_let z ts k) (name_at (words_of z (drop k ts))) x d.behind (named_is (name_at (words_of z (drop k ts))) x d.is)
 
   within : (b : Bool) → names x (words_of z (drop k ts)) ≡ b → b ≡ true → k < length ts
@@ -72,14 +72,14 @@ module _ (z : List ℕ) (ts : List Token) (k : ℕ) (x : List ℕ) where
 
 -- ---- names that were declared before
 
-named_kept : (known : List (List ℕ)) (o : Option (List ℕ)) (x : List ℕ) → IsAmong known x → IsAmong (with_named known o) x
+pub named_kept : (known : List (List ℕ)) (o : Option (List ℕ)) (x : List ℕ) → IsAmong known x → IsAmong (with_named known o) x
 named_kept known None x h = h
 named_kept known (Some y) x h = one_kept known y x h
 
-named_there : (known : List (List ℕ)) (o : Option (List ℕ)) (x : List ℕ) → o ≡ Some x → IsAmong (with_named known o) x
+pub named_there : (known : List (List ℕ)) (o : Option (List ℕ)) (x : List ℕ) → o ≡ Some x → IsAmong (with_named known o) x
 named_there known o x e = subst (λ (p : Option (List ℕ)). IsAmong (with_named known p) x) (sym e) (one_there known x)
 
-named_only : (known : List (List ℕ)) (o : Option (List ℕ)) (x : List ℕ) → IsAmong (with_named known o) x → IsAmong known x ⊎ (o ≡ Some x)
+pub named_only : (known : List (List ℕ)) (o : Option (List ℕ)) (x : List ℕ) → IsAmong (with_named known o) x → IsAmong known x ⊎ (o ≡ Some x)
 named_only known None x h = inl h
 named_only known (Some y) x h = ⊎_elim (λ old. inl old) (λ e. inr (ap Some e)) (one_only known y x h)
 
@@ -112,7 +112,7 @@ if_note : (b : Bool) (kind : Kind) (s : Stretch) (n : Note) → Contains (note_i
 if_note true kind s n c = (refl, item_cases (record { kind = kind; word = s }) n c)
 if_note false kind s n c = absurd (none_contained c)
 
-unless_note : (b : Bool) (kind : Kind) (s : Stretch) (n : Note) → Contains (note_unless b kind s) n → (b ≡ false) × (record { kind = kind; word = s } ≡ n)
+pub unless_note : (b : Bool) (kind : Kind) (s : Stretch) (n : Note) → Contains (note_unless b kind s) n → (b ≡ false) × (record { kind = kind; word = s } ≡ n)
 unless_note true kind s n c = absurd (none_contained c)
 unless_note false kind s n c = (refl, item_cases (record { kind = kind; word = s }) n c)
 
@@ -120,14 +120,14 @@ note_there : (b : Bool) (kind : Kind) (s : Stretch) → b ≡ true → Contains 
 note_there true kind s e = first_item (record { kind = kind; word = s }) []
 note_there false kind s e = absurd (false≢true e)
 
-note_left : (b : Bool) (kind : Kind) (s : Stretch) → b ≡ false → Contains (note_unless b kind s) (record { kind = kind; word = s })
+pub note_left : (b : Bool) (kind : Kind) (s : Stretch) → b ≡ false → Contains (note_unless b kind s) (record { kind = kind; word = s })
 note_left true kind s e = absurd (true≢false e)
 note_left false kind s e = first_item (record { kind = kind; word = s }) []
 
 no_note : AreAscending []
 no_note = tt
 
-one_note : (n : Note) → AreAscending (n ∷ [])
+pub one_note : (n : Note) → AreAscending (n ∷ [])
 one_note n = ((λ m c. absurd (none_contained c)), tt)
 
 if_ascending : (b : Bool) (kind : Kind) (s : Stretch) → AreAscending (note_if b kind s)
@@ -227,6 +227,13 @@ module _ (z : List ℕ) (ts : List Token) (f : Content) (has : HasContent z ts f
       (λ r. let of = of_defined (stretch_at ts k) (declared_names z ts k) (defined_name z ts k) n r in
       (ap (λ (m : Note). m.word) of.0, within z ts k of.1.0 true (defined_is z ts k of.1.0 of.1.1).is refl)) (here_cases k n c)
 
+  -- it is of one of the first kinds
+  here_kind : (k : ℕ) (n : Note) → Contains (here k) n → rank n.kind < 3
+  here_kind k n c = ⊎_elim
+      (λ l. ⊎_elim (λ e. subst (λ (m : Note). rank m.kind < 3) e (omega arith)) (λ e. subst (λ (m : Note). rank m.kind < 3) e (omega arith))
+      (of_declared (stretch_at ts k) (declared_names z ts k) (declared_name z ts k) n l).0)
+      (λ r. subst (λ (m : Note). rank m.kind < 3) (of_defined (stretch_at ts k) (declared_names z ts k) (defined_name z ts k) n r).0 (omega arith)) (here_cases k n c)
+
   here_ascend : (k : ℕ) → AreAscending (here k)
   here_ascend k = joined (declared_notes f.signature symbols (declared_names z ts k) (declared_name z ts k) (stretch_at ts k)) (defined_notes led (defined_name z ts k) (stretch_at ts k))
       (declared_ascend (stretch_at ts k) (declared_names z ts k) (declared_name z ts k)) (defined_ascend (stretch_at ts k) (declared_names z ts k) (defined_name z ts k))
@@ -251,7 +258,7 @@ module _ (z : List ℕ) (ts : List Token) (f : Content) (has : HasContent z ts f
       (Contains-append_cases (before k) (here k) n c)
 
   module _ (end : ℕ) (order : InOrder 0 end ts) where
-    before_ascend : (k : ℕ) → AreAscending (before k)
+    pub before_ascend : (k : ℕ) → AreAscending (before k)
     before_ascend zero = tt
     before_ascend (suc k) = joined (before k) (here k) (before_ascend k) (here_ascend k)
         (λ n m c d. let one = out_of k n c in
@@ -293,26 +300,29 @@ module _ (z : List ℕ) (ts : List Token) (f : Content) (has : HasContent z ts f
             by true e = absurd (never (leads.sound x e))
             by false e = refl
 
-      all_there : (n : Note) → IsNote z n → Contains (before (length ts)) n
-      all_there _ (other_symbol {ts = us} {f = h} {x = x} {k = k} content first another) =
+      pub all_there : (n : Note) → IsNote z n → rank n.kind < 3 → Contains (before (length ts)) n
+      all_there _ (other_symbol {ts = us} {f = h} {x = x} {k = k} content first another) lt =
           let same = one us h content in
           subst (λ (vs : List Token). Contains (before (length ts)) (note_at OtherSymbol vs k)) (sym same.0)
           (other_there k x (subst (λ (vs : List Token). IsFirstDeclaredAt z vs x k) same.0 first) (subst (λ (g : Content). IsAnother g.signature x) same.1 another))
-      all_there _ (unused_symbol {ts = us} {f = h} {x = x} {k = k} content first never) =
+      all_there _ (unused_symbol {ts = us} {f = h} {x = x} {k = k} content first never) lt =
           let same = one us h content in
           subst (λ (vs : List Token). Contains (before (length ts)) (note_at UnusedSymbol vs k)) (sym same.0)
           (unused_there k x (subst (λ (vs : List Token). IsFirstDeclaredAt z vs x k) same.0 first) (subst (λ (g : Content). Contains (content_symbols g) x → ⊥) same.1 never))
-      all_there _ (unused_definition {ts = us} {f = h} {x = x} {k = k} content defined never) =
+      all_there _ (unused_definition {ts = us} {f = h} {x = x} {k = k} content defined never) lt =
           let same = one us h content in
           subst (λ (vs : List Token). Contains (before (length ts)) (note_at UnusedDefinition vs k)) (sym same.0)
           (definition_there k x (subst (λ (vs : List Token). IsDefinedAt z vs x k) same.0 defined) (subst (λ (g : Content). LeadsTo g.definitions g.process x → ⊥) same.1 never))
+      all_there _ (unshown_fact content first never) lt = absurd (omega (arith, lt))
+      all_there _ (unspoken_event content first some never) lt = absurd (omega (arith, lt))
+      all_there _ (captured_name c) lt = absurd (omega (arith, lt))
+      all_there _ (compared_name c) lt = absurd (omega (arith, lt))
 
-      pub are_notes : AreNotes z (before (length ts))
-      are_notes = record {
-        order = before_ascend (length ts);
-        are = λ n c. let one = out_of (length ts) n c in here_true one.0 n one.2;
-        all = all_there;
-      }
+      pub all_true : (n : Note) → Contains (before (length ts)) n → IsNote z n
+      all_true n c = let one = out_of (length ts) n c in here_true one.0 n one.2
+
+      pub all_kinds : (n : Note) → Contains (before (length ts)) n → rank n.kind < 3
+      all_kinds n c = let one = out_of (length ts) n c in here_kind one.0 n one.2
 
       -- and each is the word of a token
       pub are_tokens : (n : Note) → Contains (before (length ts)) n → (k : ℕ) × (k < length ts) × (stretch_at ts k ≡ n.word)

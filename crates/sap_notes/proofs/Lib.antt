@@ -6,7 +6,13 @@ pub mod Ascending
 pub mod Content
 pub mod Spans
 pub mod Found
+pub mod Merged
+pub mod Pieces
 pub mod Telling
 pub mod ByHand
+pub mod FactsAt
+pub mod FirstFound
 pub mod Whole
+pub mod FactNotes
+pub mod NameNotes
 pub mod Steps

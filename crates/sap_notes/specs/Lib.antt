@@ -1,8 +1,11 @@
 pub mod Symbols
+pub mod Facts
 pub mod Contents
 pub mod NotedWords
+pub mod FactWords
 pub mod OtherSymbols
 pub mod Notes
 pub mod NotesTold
 pub mod NoteExamples
+pub mod FactExamples
 pub mod code

@@ -7,6 +7,7 @@ use Rattle.sap_terms.specs.declared.var.Sort.TheVariants.{Msg}
 use Rattle.sap_terms.specs.declared.var.Var.{Var}
 use Rattle.sap_text.specs.declared.token.Token.{Token}
 use Rattle.sap_process.specs.Action as action
+use Rattle.sap_process.specs.Proc.{act, nil}
 use Rattle.sap_macro.specs.Written as written
 use Rattle.sap_macro.specs.Written.{Written, Definition}
 use Rattle.sap_formula.specs.Form as form
@@ -83,6 +84,7 @@ some_content = record {
   signature = with_symbol (codes "h") 1;
   definitions = record { name = codes "P"; params = []; body = written.act (action.out (constant (codes "p"))) written.nil } ∷ [];
   process = written.act (action.out (constant (codes "q"))) written.nil;
+  whole = act (action.out (constant (codes "q"))) nil;
   formulas = form.equal (constant (codes "r")) (constant (codes "s")) ∷ [];
 }
 
@@ -102,7 +104,7 @@ a_place = codes "line " ++ decimal 2 ++ codes ", column " ++ decimal 1 ++ codes 
 
 -- each with its sentence on a line
 abbrev pub sdec_told : List ℕ
-sdec_told = sdec_place ++ (sentence OtherSymbol (codes "sdec") ++ (10 ∷ []))
+sdec_told = sdec_place ++ (sentence [] OtherSymbol (codes "sdec") ++ (10 ∷ []))
 
 abbrev pub a_told : List ℕ
-a_told = a_place ++ (sentence UnusedDefinition (codes "A") ++ (10 ∷ []))
+a_told = a_place ++ (sentence [] UnusedDefinition (codes "A") ++ (10 ∷ []))

@@ -3,3 +3,6 @@ pub mod Gathered
 pub mod Led
 pub mod Others
 pub mod Walk
+pub mod FirstNotes
+pub mod Ranked
+pub mod Once

@@ -51,8 +51,13 @@ fn go_on(bytes: &[u8], tokens: &[Token], k: usize, before: Before) -> Before
     }
 }
 
-// The name that is this token, if it is one.
-fn name_there(alloc: Global, bytes: &[u8], tokens: &[Token], k: usize) -> Result<Option<Name>, Mem>
+/// The name that is this token, if it is one.
+pub(crate) fn name_there(
+    alloc: Global,
+    bytes: &[u8],
+    tokens: &[Token],
+    k: usize,
+) -> Result<Option<Name>, Mem>
     ensures { IfOk result (λ o. o ≡ name_at (words_of bytes.now (drop k tokens.now))) }
 {
     match name_at(bytes, beyond(k, tokens)) {

@@ -10,6 +10,14 @@ pub enum Kind {
     UnusedSymbol,
     /// The file's process doesn't lead to a definition.
     UnusedDefinition,
+    /// No place of the file's process shows a fact of a restriction or a lemma.
+    UnshownFact,
+    /// No restriction or lemma speaks of an event.
+    UnspokenEvent,
+    /// A pattern behind a use binds a name in one of its arguments.
+    CapturedName,
+    /// A whole pattern of an input is one variable in scope.
+    ComparedName,
 }
 
 /// What may not be meant in a file that is accepted, and the word at which it stands.

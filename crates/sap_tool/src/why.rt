@@ -114,7 +114,7 @@ fn judge_process(
     ensures { IfOk result (IsWhyText bytes.now) }
 {
     match check_written(alloc, written, process) {
-        Ok(()) => accepted(alloc, bytes, tokens, written),
+        Ok(()) => accepted(alloc, bytes, tokens, written, process),
         Err(fault) => refused(
             alloc,
             bytes,
@@ -131,14 +131,16 @@ fn accepted(
     bytes: &[u8],
     tokens: &[Token],
     written: &WrittenFile,
+    process: &Process,
 ) -> Result<Text, Mem>
     requires tokens { HasTokens bytes.now tokens.now }
     requires written { IsWrittenFile bytes.now written.now }
+    requires process { IsFileExpansion written.now (proc process.now) }
     ensures { IfOk result (λ text. (t : List ℕ) × (text ≡ accepted_text ++ t) × IsNotesText bytes.now t) }
 {
     let mut text = Text::new(alloc);
     text.push_bytes(b"accepted\n")?;
-    push_notes(alloc, &mut text, bytes, tokens, written)?;
+    push_notes(alloc, &mut text, bytes, tokens, written, process)?;
     Ok(text)
 }
 

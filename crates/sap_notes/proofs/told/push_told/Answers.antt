@@ -1,30 +1,16 @@
-use Rattle.std.proofs.Common.{arith}
-use Rattle.sap_notes.proofs.Telling.{ahead_next, all_notes, first_inside, item_ahead, item_here, no_notes, notes_more}
+use Rattle.std.proofs.Common.{List, length, sym, subst, ◌∙◌}
+use Rattle.std.specs.Prelude.{Contains}
+use Rattle.sap_stretches.specs.Stretches.{IsInBytes}
+use Rattle.sap_notes.specs.Notes.{AreAscending}
+use Rattle.sap_notes.specs.declared.note.Note.{Note}
+use Rattle.sap_notes.proofs.Telling.{one_ascend, one_contained}
 use Rattle.sap_notes.proofs.told.push_told.Goals as goal
 
-pub loop-k-init : goal.loop-k-init
-loop-k-init c =
-    record { on = omega arith; texts = no_notes c.args.bytes.now c.args.text.now; line = c.line_of-line.ensures.is; ahead = λ n m. let e = c.line_of-line.ensures.at in omega (arith, e) }
+pub push_all-requires-clause-order : goal.push_all-requires-clause-order
+push_all-requires-clause-order c =
+    subst (λ (ns : List Note). AreAscending ns) (sym (c.as_slice-2.ensures ∙ c.in_ok-told.ensures)) (one_ascend c.args.notes.now c.requires.order)
 
-pub line_behind-line-requires-clause-behind : goal.line_behind-line-requires-clause-behind
-line_behind-line-requires-clause-behind c = c.loop-k.invariant.ahead _ (item_ahead c.args.notes.now c.loop-k.k _ c.loop-k-test.true)
-
-pub line_behind-line-requires-clause-inside : goal.line_behind-line-requires-clause-inside
-line_behind-line-requires-clause-inside c =
-    first_inside c.args.bytes.now _ (c.requires.inside _ (item_here c.args.notes.now c.loop-k.k _ c.loop-k-test.true))
-
-pub push_note-requires-clause-inside : goal.push_note-requires-clause-inside
-push_note-requires-clause-inside c = c.requires.inside _ (item_here c.args.notes.now c.loop-k.k _ c.loop-k-test.true)
-
-pub loop-k-preserved : goal.loop-k-preserved
-loop-k-preserved c =
-    let lt = c.loop-k-test.true in
-    record {
-      on = omega (arith, lt);
-      texts = notes_more c.args.bytes.now c.args.text.now c.loop-k.text c.push_note.new.text c.args.notes.now c.loop-k.k _ lt c.loop-k.invariant.texts c.in_ok-push_note.ensures;
-      line = c.line_behind-line.ensures.is;
-      ahead = λ n m. ahead_next c.args.notes.now c.loop-k.k _ c.line_behind-line.result n c.line_behind-line.ensures.at c.requires.order lt m;
-    }
-
-pub returns : goal.returns
-returns c = all_notes c.args.bytes.now c.args.text.now c.loop-k.text c.args.notes.now c.loop-k.k c.loop-k-test.false c.loop-k.invariant.texts
+pub push_all-requires-clause-inside : goal.push_all-requires-clause-inside
+push_all-requires-clause-inside c =
+    subst (λ (ns : List Note). (n : Note) → Contains ns n → IsInBytes (length c.args.bytes.now) n.word) (sym (c.as_slice-2.ensures ∙ c.in_ok-told.ensures))
+    (λ n i. c.requires.inside n (one_contained c.args.notes.now n i))
