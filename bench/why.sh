@@ -17,12 +17,15 @@
 #   binders   one lemma that binds one name so many times in one quantifier, and behind it once without a guard
 #   deep      one lemma of so many conjuncts, which are more levels than a formula may have
 #   nested    one lemma of so many facts below twenty quantifiers in one another that bind one name, and behind them one without a guard
-#   notes     an accepted file with a note on each line: so many functions that no term has, and definitions that nothing uses
+#   notes     an accepted file with a note on each line: so many functions that no term has, definitions that nothing uses, and lemmas whose
+#             facts nothing shows
 #   row       the same in one line
+#   events    an accepted file with a rule that shows so many facts of which no formula speaks
+#   taken     an accepted file with so many uses of a definition, of which half bind a name in their argument, and half compare one
 #
-# For each size it tells the instructions of both, by valgrind, their ratio, which is to be at most 1.5, of `notes` and `row` 2, and what
-# `why` takes to the size before, at most 2.2. Both read the file once. Of a piece in no grammar `why` goes over the words once more up to
-# the wrong one, and there tries some hundred words, however deep it stands.
+# For each size it tells the instructions of both, by valgrind, their ratio, which is to be at most 1.5, of `notes`, `row`, `events` and
+# `taken` 2, and what `why` takes to the size before, at most 2.2. Both read the file once. Of a piece in no grammar `why` goes over the
+# words once more up to the wrong one, and there tries some hundred words, however deep it stands.
 # And of each file of examples/ it tells the instructions of `compile`, and of `why` on it with a lemma that is in no grammar, which are
 # to be fewer.
 #
@@ -112,12 +115,28 @@ nested() {
     }'
 }
 
-# so many functions and definitions that are unused, with this behind each
+# so many functions and definitions that are unused, and lemmas of facts that aren't shown, with this behind each
 unused() {
     awk -v n="$1" -v feed="$2" 'BEGIN {
         printf "theory Bench begin%s", feed
-        for (k = 1; k <= n; k++) printf "functions: f%d/1%slet P%d = event A()%s", k, feed, k, feed
+        for (k = 1; k <= n; k++) printf "functions: f%d/1%slet P%d = event A()%slemma l%d: \"Ex #i. B%d()@i\"%s", k, feed, k, feed, k, k, feed
         print "process: 0 end"
+    }'
+}
+
+events() {
+    awk -v n="$1" 'BEGIN {
+        printf "theory Bench begin process: [ ] --[ A0()\n"
+        for (k = 1; k <= n; k++) printf ", A%d()\n", k
+        print "]-> [ ] lemma l: \"T\" end"
+    }'
+}
+
+taken() {
+    awk -v n="$1" 'BEGIN {
+        printf "theory Bench begin let P(x) = in(x)\nprocess: 0\n"
+        for (k = 1; k <= n / 2; k++) printf "| P(w%d)\n| (new v%d; P(v%d))\n", k, k, k
+        print "end"
     }'
 }
 
@@ -168,6 +187,8 @@ kind deep 'line 2: not in the grammar' 1000 2000 4000 8000
 kind nested 'last: variable x is not guarded' 1000 2000 4000 8000
 kind notes '' 1000 2000 4000 8000
 kind row '' 1000 2000 4000 8000
+kind events '' 4000 8000 16000 32000
+kind taken '' 70 140 280
 
 case $wished in *" examples "* | "  ") ;; *) exit 0 ;; esac
 for file in "$(dirname "$0")"/../examples/*.spthy; do

@@ -10,9 +10,9 @@ the one use, or `&1&`, `&2&` and so on before the names of several, the innermos
 before its word. What is expected in place of a word that is in no grammar is found by the grammar of docs/files.md (why_expected.py);
 where levels have a say it stands by hand behind ` = `. Where a row of `sap_cures` fits at the mistake, its sentence stands by hand
 behind that and ` => `. `bench/why-mutations` has mutations of the example files (why_mutations.py). In a file that is accepted
-`@1@`, `@2@` or `@3@` stands before each word at which a note of this kind is, the kinds as `NOTES` has them. What is counted here from
-the marks is line, column, the bytes of the word, and the lines of the uses, and N in a cause is the offset of the mark. Nothing is
-taken from what the program prints.
+`@1@`, `@2@` and so on stands before each word at which a note of this kind is, the kinds as `NOTES` has them, and `@5@` before the first
+word of each event of which no formula speaks, which are told in one. What is counted here from the marks is line, column, the bytes of
+the word, and the lines of the uses, and N in a cause is the offset of the mark. Nothing is taken from what the program prints.
 """
 import glob
 import os
@@ -62,12 +62,18 @@ ADVICE = [
     (r"longer than 1048576 bytes", "Leave out comments, or write once, as a let, what stands twice."),
 ]
 
-# What is told of a note, by its number: a symbol in place of that of a builtin, one that is in no term, a definition that isn't led to.
+# What is told of a note, by its number: a symbol in place of that of a builtin, one that is in no term, a definition that isn't led to, a fact
+# that isn't shown, events of which no formula speaks, a name in an argument that a pattern binds, a variable that is compared.
 NOTES = {
     "1": "No equation speaks of this symbol, so nothing undoes it: name builtins: %s in place of this declaration.",
     "2": "No term has this symbol: use it, or leave its declaration out.",
     "3": "The process doesn't lead to this let: use it there, or leave it out.",
+    "4": "No place of the process shows this fact with as many arguments: write a fact that an event shows, or show this one.",
+    "5": "No restriction or lemma speaks of these events with as many arguments: %s. Speak of them there, or leave them out.",
+    "6": "This name is new to the process: what comes in is bound to it, by a pattern of the definition. To hand down a value, bind the name in front of the use; to bind a name of the definition's own, leave the parameter out.",
+    "7": "This variable is bound already: only a message that is equal to its value comes in. For any message, write a new name.",
 }
+MOST_EVENTS = 8
 BUILTINS = {
     "senc": "symmetric-encryption",
     "sdec": "symmetric-encryption",
@@ -188,10 +194,15 @@ def accepted(marked):
     """An accepted file, and all that is told of it."""
     bare, notes = noted(marked.decode("latin-1"))
     bare, told = bare.encode("latin-1"), "accepted\n"
-    for at, kind in notes:
-        start, end = place(bare, at, "")
-        name = bare[start:end].decode()
-        told += picture(bare, start, end) + (NOTES[kind] % BUILTINS[name] if kind == "1" else NOTES[kind]) + "\n"
+    names = [bare[slice(*place(bare, at, ""))].decode() for at, _ in notes]
+    events = [name for name, (_, kind) in zip(names, notes) if kind == "5"]
+    more = " and %d more" % (len(events) - MOST_EVENTS) if len(events) > MOST_EVENTS else ""
+    inside = {"1": BUILTINS, "5": {name: ", ".join(events[:MOST_EVENTS]) + more for name in events[:1]}}
+    for name, (at, kind) in zip(names, notes):
+        if kind == "5" and name not in inside["5"]:
+            continue
+        what = NOTES[kind] % inside[kind][name] if kind in inside else NOTES[kind]
+        told += picture(bare, *place(bare, at, "")) + what + "\n"
     return bare, told
 
 
